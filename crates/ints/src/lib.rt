@@ -1,0 +1,19 @@
+// Whole numbers: the laws that later proofs cite (proofs/), and the rounded quotient.
+ghost use mathlib.Core.Path.{_≡_};
+ghost use Prim.Native.Nat.{_^_};
+ghost use Rattle.ints.specs.Quotient.{rounded};
+
+// x divided by 2^digits, rounded to the nearest whole number, halves up (document 01, Levels 3), for every x and every number of digits.
+// x is counted in halves of the divisor, rounded down, and those in pairs, rounded up, so that no sum can overflow.
+pub fn rounded(x: i64, digits: u32) -> i64
+    ensures { λ r. ⌜ r ≡ rounded (2 ^ digits) x ⌝ }
+{
+    if digits == 0 {
+        return x;
+    }
+    if 63 < digits {
+        return 0;
+    }
+    let halves = x >> (digits - 1);
+    halves - (halves >> 1)
+}
