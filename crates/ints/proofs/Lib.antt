@@ -6,3 +6,4 @@ pub mod Floor
 pub mod Rounding
 pub mod Sums
 pub mod Fit
+pub mod Tables

@@ -1,3 +1,3 @@
 pub mod Quotient
 pub mod Sum
-pub mod Table
+pub mod Tabulate

@@ -5,7 +5,7 @@ ghost use Rattle.ints.specs.Quotient.{rounded};
 
 // x divided by 2^digits, rounded to the nearest whole number, halves up (document 01, Levels 3), for every x and every number of digits.
 // x is counted in halves of the divisor, rounded down, and those in pairs, rounded up, so that no sum can overflow.
-pub fn rounded(x: i64, digits: u32) -> i64
+pub fn rounded(x: i64, digits: usize) -> i64
     ensures { λ r. ⌜ r ≡ rounded (2 ^ digits) x ⌝ }
 {
     if digits == 0 {
