@@ -1,2 +1,2 @@
 pub mod Root
-pub mod Fine
+pub mod Cosine

@@ -1,3 +1,54 @@
-pub fn same(x: u64) -> u64 {
-    x
+// Cosines in whole numbers: the engine's quarter table, and the cosine and sine of any step of a turn.
+mod table;
+
+use refusal::BlockKind;
+ghost use mathlib.Core.Path.{_≡_};
+ghost use lib.IntN.{pos};
+ghost use lib.ListN.{getD};
+ghost use Rattle.ints.specs.Tabulate.{tabulate};
+ghost use Rattle.cosine.specs.Cosine.{away, cosine, sine, quarterTable};
+
+// The engine's quarter table: T(0) to T(256).
+pub fn quarter_table() -> [u32; 257]
+    ensures { λ t. ⌜ t ≡ tabulate 257 (quarterTable 15) ⌝ }
+{
+    table::QUARTER
+}
+
+// The cosine of a step, whatever its number, from the cosines of a quarter turn: odd about 256, even about 0.
+pub fn cosine(quarter: &[u32; 257], step: usize) -> i64
+    ensures { λ c. ⌜ c ≡ cosine (λ j. getD (now (quarter .entry)) j 0) step ⌝ }
+{
+    let k = steps_away(step);
+    if k <= 256 {
+        wide(quarter[k])
+    } else {
+        -wide(quarter[512 - k])
+    }
+}
+
+// The sine of a step: the cosine 256 steps back, which is 768 on.
+pub fn sine(quarter: &[u32; 257], step: usize) -> i64
+    ensures { λ s. ⌜ s ≡ sine (λ j. getD (now (quarter .entry)) j 0) step ⌝ }
+{
+    cosine(quarter, step % BlockKind::TURN + 768)
+}
+
+// The steps from here to the nearest whole turn, 0 to 512.
+fn steps_away(step: usize) -> usize
+    ensures { λ k. ⌜ k ≡ away step ⌝ }
+{
+    let turned = step % BlockKind::TURN;
+    if turned <= 512 {
+        turned
+    } else {
+        BlockKind::TURN - turned
+    }
+}
+
+// An entry of a table as a signed number.
+fn wide(entry: u32) -> i64
+    ensures { λ r. ⌜ r ≡ pos entry ⌝ }
+{
+    entry as i64
 }

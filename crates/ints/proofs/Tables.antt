@@ -11,14 +11,14 @@ use lib.Ieee.Fits.{and-l, and-r}
 use lib.ListN.{getD, length}
 use Rattle.ints.specs.Tabulate.{tabulateFrom, tabulate}
 
+never : (k : ℕ) → k < 0 → ⊥
+never k h = omega arith
+
 -- ---- the entries of a tabulated list
 
 from : {A : Type 0} (n i : ℕ) (f : ℕ → A) (d : A) (k : ℕ) → k < n → getD (tabulateFrom i n f) k d ≡ f (i + k)
 unfolding tabulateFrom
 from zero i f d k h = absurd (never k h)
-  where
-    never : (k : ℕ) → k < 0 → ⊥
-    never k h = omega arith
 from (suc n) i f d zero h = ap f (sym (add-zero i))
 from (suc n) i f d (suc k) h = from n (suc i) f d k (omega arith) ∙ ap f (suc-add i k ∙ sym (add-suc i k))
 
@@ -49,3 +49,43 @@ same-list [] [] t = refl
 same-list [] (y ∷ ys) t = absurd t
 same-list (x ∷ xs) [] t = absurd t
 same-list (x ∷ xs) (y ∷ ys) t = ap₂ (λ (z : ℕ) (zs : List ℕ). z ∷ zs) (eqb→eq x y (and-l (eqb x y) (same xs ys) t)) (same-list xs ys (and-r (eqb x y) (same xs ys) t))
+
+-- ---- two tables side by side, and a triangle of three: a test of f j, f k and g (j + k) for all j and k
+
+unfoldable pub alongside : {A B : Type 0} → (A → B → Bool) → List A → List B → Bool
+alongside t [] ys = true
+alongside t (x ∷ xs) [] = false
+alongside t (x ∷ xs) (y ∷ ys) = t x y && alongside t xs ys
+
+unfoldable pub triangle : {A B : Type 0} → (A → A → B → Bool) → List A → List A → List B → Bool
+unfolding alongside
+triangle t fs [] gs = true
+triangle t fs (x ∷ xs) [] = false
+triangle t fs (x ∷ xs) (g ∷ gs) = alongside (t x) fs (g ∷ gs) && triangle t fs xs gs
+
+module _ {A B : Type 0} (t : A → B → Bool) (f : ℕ → A) (g : ℕ → B) where
+  alongside-from : (n m i j : ℕ) → T (alongside t (tabulateFrom i n f) (tabulateFrom j m g)) → (k : ℕ) → k < n → T (t (f (i + k)) (g (j + k)))
+  unfolding alongside tabulateFrom
+  alongside-from zero m i j h k hk = absurd (never k hk)
+  alongside-from (suc n) zero i j h k hk = absurd h
+  alongside-from (suc n) (suc m) i j h zero hk = rw (add-zero i, add-zero j) (and-l (t (f i) (g j)) _ h)
+  alongside-from (suc n) (suc m) i j h (suc k) hk = rw (add-suc i k, add-suc j k, sym (suc-add i k), sym (suc-add j k)) (alongside-from n m (suc i) (suc j) (and-r (t (f i) (g j)) _ h) k (omega arith))
+
+  pub alongside-at : (n m : ℕ) → T (alongside t (tabulate n f) (tabulate m g)) → (k : ℕ) → k < n → T (t (f k) (g k))
+  unfolding tabulate
+  alongside-at n m h k hk = rw zero-add at (alongside-from n m 0 0 h k hk)
+
+module _ {A B : Type 0} (t : A → A → B → Bool) (f : ℕ → A) (g : ℕ → B) where
+  row-from : (n m i : ℕ) (fs : List A) → T (triangle t fs (tabulateFrom i n f) (tabulateFrom i m g)) → (j : ℕ) → j < n → (l : ℕ) × T (alongside (t (f (i + j))) fs (tabulateFrom (i + j) l g))
+  unfolding triangle tabulateFrom
+  row-from zero m i fs h j hj = absurd (never j hj)
+  row-from (suc n) zero i fs h j hj = absurd h
+  row-from (suc n) (suc m) i fs h zero hj = (suc m, rw (add-zero i) (and-l (alongside (t (f i)) fs (g i ∷ tabulateFrom (suc i) m g)) _ h))
+  row-from (suc n) (suc m) i fs h (suc j) hj = rw (add-suc i j, sym (suc-add i j)) (row-from n m (suc i) fs (and-r (alongside (t (f i)) fs (g i ∷ tabulateFrom (suc i) m g)) _ h) j (omega arith))
+
+  pub triangle-at : (n m : ℕ) → T (triangle t (tabulate n f) (tabulate n f) (tabulate m g)) → (j k : ℕ) → j < n → k < n → T (t (f j) (f k) (g (j + k)))
+  unfolding tabulate
+  triangle-at n m h j k hj hk = go (row-from n m 0 (tabulateFrom 0 n f) h j hj)
+    where
+      go : (l : ℕ) × T (alongside (t (f (0 + j))) (tabulateFrom 0 n f) (tabulateFrom (0 + j) l g)) → T (t (f j) (f k) (g (j + k)))
+      go p = rw (zero-add j, zero-add k) at (alongside-from (t (f (0 + j))) f g n (p .0) 0 (0 + j) (p .1) k hk)

@@ -52,9 +52,12 @@ loop-less : tie.Need-loop-less Inv-loop μ-loop
 loop-less c = let i = c .before .before .loop .inv in omega (arith, within (c .before .before .loop .p) (rw (i .2) at (c .before .loop-test .taken)))
 
 loop-again : tie.Need-loop-again Inv-loop μ-loop
-loop-again c = let i = c .before .before .loop .inv in let p = c .before .before .loop .p in
-    (omega arith, omega (arith, within p (rw (i .2) at (c .before .loop-test .taken))), rw (add-one p, pow-suc 2 p, mul-comm (2 ^ p) 2, i .2) refl,
-    below-more _ _ (i .3) (λ h e. c .if1 .left (i .2 ∙ e)))
+loop-again c = let i = c .before .before .loop .inv in let p = c .before .before .loop .p in (
+  omega arith,
+  omega (arith, within p (rw (i .2) at (c .before .loop-test .taken))),
+  rw (add-one p, pow-suc 2 p, mul-comm (2 ^ p) 2, i .2) refl,
+  below-more _ _ (i .3) (λ h e. c .if1 .left (i .2 ∙ e)),
+)
 
 returns-2 : tie.Need-returns-2 Inv-loop μ-loop
 returns-2 c = let i = c .before .loop .inv in

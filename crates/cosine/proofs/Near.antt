@@ -1,0 +1,86 @@
+-- The quarter table at every scale 2^s with s < 60: within half a unit of the fine cosines over the whole turn, and no larger than its scale.
+-- Example: `cosine-near 15 (lit< tt) j : natAbs (cosine (quarterTable 15) j *ℤ pos (2 ^ 60) -ℤ cosine fine j *ℤ pos (2 ^ 15)) ≤ 2 ^ 59`.
+use mathlib.Core.Path.{_≡_, refl, sym, _∙_, ap, ap₂}
+use mathlib.Core.List.{List, [], _∷_}
+use Prim.Native.Nat.{ℕ, zero, suc, _+_, _*_, _-_, _/_, _%_, _^_, _≤_, _<_}
+use native.Mathlib.Nat.{div-add-mod, mod-lt, mul-le-mul-left, mul-comm, pow-suc, div-lt-iff-lt-mul}
+use native.Mathlib.Omega.{arith}
+use lib.IntN.{ℤ, pos, negℤ, natAbs, _+ℤ_, _-ℤ_, _*ℤ_}
+use lib.Pow.{pow-pos, pow-add}
+use Rattle.ints.proofs.Ring.{ring, quotes}
+use Rattle.ints.proofs.Abs.{abs-fact, abs-neg, abs-times}
+use Rattle.cosine.specs.Cosine.{cosine, sine, fine, quarterTable}
+use Rattle.cosine.proofs.Turn.{over-cosine, over-sine}
+use Rattle.cosine.proofs.Quarter.{quarter-size}
+
+-- ---- f / 2h to the nearest, over plain numbers
+
+module _ (h : ℕ) (z : 0 < h) (f : ℕ) where
+  nearest : ℕ
+  nearest = (f + h) / (2 * h)
+
+  off : natAbs (pos (2 * h * nearest) -ℤ pos f) ≤ h
+  unfolding nearest
+  off = go (2 * h * ((f + h) / (2 * h))) ((f + h) % (2 * h)) (div-add-mod (f + h) (2 * h)) (mod-lt (f + h) (omega arith))
+    where
+      go : (t r : ℕ) → t + r ≡ f + h → r < 2 * h → natAbs (pos t -ℤ pos f) ≤ h
+      go t r e k = let Γ = pos t ∷ pos f ∷ [] in omega (arith, abs-fact Γ (pos t -ℤ pos f) (search quotes depth 40))
+
+  scaled : (q : ℕ) → natAbs (pos nearest *ℤ pos (2 * (h * q)) -ℤ pos f *ℤ pos q) ≤ h * q
+  scaled q = rw (out, abs-times (pos q) (pos (2 * h * nearest) -ℤ pos f)) (omega (arith, mul-le-mul-left q off))
+    where
+      out : pos nearest *ℤ pos (2 * (h * q)) -ℤ pos f *ℤ pos q ≡ pos q *ℤ (pos (2 * h * nearest) -ℤ pos f)
+      out = ring (pos f ∷ pos nearest ∷ pos q ∷ pos h ∷ []) (search quotes depth 40) tt
+
+  at-most : (q : ℕ) → f ≤ 2 * (h * q) → nearest ≤ q
+  unfolding nearest
+  at-most q k = below (div-lt-iff-lt-mul {x = f + h} {y = suc q} (omega arith) .1 (omega arith))
+    where
+      below : {a b : ℕ} → a < suc b → a ≤ b
+      below l = omega arith
+
+-- ---- the table
+
+module _ (s : ℕ) (fits : s < 60) where
+  half : 2 ^ (60 - s) ≡ 2 * 2 ^ (59 - s)
+  half = ap (λ (k : ℕ). 2 ^ k) up ∙ pow-suc 2 (59 - s) ∙ mul-comm (2 ^ (59 - s)) 2
+    where
+      up : 60 - s ≡ suc (59 - s)
+      up = omega arith
+
+  scale : 2 ^ (59 - s) * 2 ^ s ≡ 2 ^ 59
+  scale = sym (pow-add 2 (59 - s) s) ∙ ap (λ (k : ℕ). 2 ^ k) whole
+    where
+      whole : 59 - s + s ≡ 59
+      whole = omega arith
+
+  table-is : (j : ℕ) → quarterTable s j ≡ nearest (2 ^ (59 - s)) (pow-pos (59 - s)) (fine j)
+  unfolding quarterTable nearest
+  table-is j = rw half refl
+
+  abbrev Near : ℤ → ℤ → Type 0
+  Near t f = natAbs (t *ℤ pos (2 ^ 60) -ℤ f *ℤ pos (2 ^ s)) ≤ 2 ^ 59
+
+  turned : (t f : ℤ) → Near t f → Near (negℤ t) (negℤ f)
+  turned t f h = rw (out t f (pos (2 ^ 60)) (pos (2 ^ s)), abs-neg) h
+    where
+      out : (t f u q : ℤ) → negℤ t *ℤ u -ℤ negℤ f *ℤ q ≡ negℤ (t *ℤ u -ℤ f *ℤ q)
+      out t f u q = ring (t ∷ f ∷ u ∷ q ∷ []) (search quotes depth 40) tt
+
+  entry-near : (j : ℕ) → j ≤ 256 → Near (pos (quarterTable s j)) (pos (fine j))
+  entry-near j h = rw table-is (rw scale at (scaled (2 ^ (59 - s)) (pow-pos (59 - s)) (fine j) (2 ^ s)))
+
+  pub cosine-near : (j : ℕ) → natAbs (cosine (quarterTable s) j *ℤ pos (2 ^ 60) -ℤ cosine fine j *ℤ pos (2 ^ s)) ≤ 2 ^ 59
+  cosine-near = over-cosine (quarterTable s) fine Near turned entry-near
+
+  pub sine-near : (j : ℕ) → natAbs (sine (quarterTable s) j *ℤ pos (2 ^ 60) -ℤ sine fine j *ℤ pos (2 ^ s)) ≤ 2 ^ 59
+  sine-near = over-sine (quarterTable s) fine Near turned entry-near
+
+  pub entry-small : (j : ℕ) → j ≤ 256 → quarterTable s j ≤ 2 ^ s
+  entry-small j h = rw table-is (at-most (2 ^ (59 - s)) (pow-pos (59 - s)) (fine j) (2 ^ s) (rw scale (quarter-size j h .alone)))
+
+  pub cosine-small : (j : ℕ) → natAbs (cosine (quarterTable s) j) ≤ 2 ^ s
+  cosine-small = over-cosine (quarterTable s) fine (λ t f. natAbs t ≤ 2 ^ s) (λ t f h. rw abs-neg h) entry-small
+
+  pub sine-small : (j : ℕ) → natAbs (sine (quarterTable s) j) ≤ 2 ^ s
+  sine-small = over-sine (quarterTable s) fine (λ t f. natAbs t ≤ 2 ^ s) (λ t f h. rw abs-neg h) entry-small

@@ -1,0 +1,143 @@
+-- What is found of the fine cosines by computing, once over the quarter: their sum law and their sizes.
+-- `quarter-sum j k hj hk` and `quarter-size j h` carry the one test to each step.
+use mathlib.Core.Path.{_≡_, refl, sym, _∙_, ap, fun-ext}
+use mathlib.Core.Bool.{Bool, true, false, not, _&&_}
+use mathlib.Core.List.{List, [], _∷_}
+use Prim.Native.Nat.{ℕ, zero, suc, _+_, _*_, _-_, _^_, _≤_, _<_}
+use native.Mathlib.Omega.{arith}
+use lib.Dec.{T, leb, ltb, leb→le, ltb→lt, nltb→le}
+use lib.Ieee.Fits.{and-l, and-r}
+use lib.IntN.{ℤ, pos, negℤ, natAbs, _+ℤ_, _-ℤ_, _*ℤ_, +ℤ-idl, +ℤ-idr}
+use lib.ListN.{getD}
+use Rattle.ints.specs.Tabulate.{tabulate}
+use Rattle.ints.proofs.Ring.{ring, quotes}
+use Rattle.ints.proofs.Abs.{abs-fact}
+use Rattle.ints.proofs.Tables.{alongside, alongside-at, triangle, triangle-at, getD-tabulate}
+use Rattle.cosine.specs.Cosine.{cosine, sine, fine}
+use Rattle.cosine.proofs.Turn.{cosine-first, sine-first, cosine-quarter, sine-quarter, cosine-cong, sine-cong}
+use Rattle.cosine.proofs.Fine.{fine-end}
+
+-- ---- the test, over a list q of a quarter's cosines
+
+abbrev at : List ℕ → ℕ → ℕ
+at q j = getD q j 0
+
+-- cosine and sine at j steps, 0 to 255; and at 0 to 511, where the cosine is the difference of the first two
+pair : List ℕ → ℕ → ℕ × ℕ
+pair q j = (at q j, at q (256 - j))
+
+triple : List ℕ → ℕ → ℕ × ℕ × ℕ
+triple q i = elim (ltb i 256) [ true ↦ (at q i, 0, at q (256 - i)) | false ↦ (0, at q (512 - i), at q (i - 256)) ]
+
+apart : ℕ → ℕ → ℕ
+apart a b = (a - b) + (b - a)
+
+-- cos j cos k − sin j sin k is near cos (j + k), and sin j cos k + cos j sin k near sin (j + k)
+cosine-close : ℕ × ℕ → ℕ × ℕ → ℕ × ℕ × ℕ → Bool
+cosine-close a b z = leb (apart (a .0 * b .0 + z .1 * 2 ^ 60) (a .1 * b .1 + z .0 * 2 ^ 60)) (2 ^ 66)
+
+sine-close : ℕ × ℕ → ℕ × ℕ → ℕ × ℕ × ℕ → Bool
+sine-close a b z = leb (apart (a .1 * b .0 + a .0 * b .1) (z .2 * 2 ^ 60)) (2 ^ 66)
+
+close : ℕ × ℕ → ℕ × ℕ → ℕ × ℕ × ℕ → Bool
+close a b z = cosine-close a b z && sine-close a b z
+
+-- cosine at most the scale, cosine and sine together at most √2 of it
+sized : ℕ → ℕ → Bool
+sized c s = leb c (2 ^ 60) && leb (c + s) (92682 * 2 ^ 44)
+
+sums : List ℕ → Bool
+sums q = triangle close (tabulate 256 (pair q)) (tabulate 256 (pair q)) (tabulate 512 (triple q))
+
+sizes : List ℕ → Bool
+sizes q = alongside sized (tabulate 257 (at q)) (tabulate 257 (λ j. at q (256 - j)))
+
+-- the fine cosines, listed, so that none is computed twice
+cosines : List ℕ
+cosines = tabulate 257 fine
+
+both : List ℕ → Bool
+both q = sums q && sizes q
+
+passed : T (both cosines)
+unfolding both sums sizes close cosine-close sine-close sized apart pair triple triangle tabulate cosines fine
+passed = tt
+
+-- ---- what it says at each step
+
+listed : (j : ℕ) → j ≤ 256 → at cosines j ≡ fine j
+unfolding cosines
+listed j h = getD-tabulate 257 fine 0 j (omega arith)
+
+close-at : (j k : ℕ) → j < 256 → k < 256 → T (close (pair cosines j) (pair cosines k) (triple cosines (j + k)))
+unfolding both sums
+close-at j k hj hk = triangle-at close (pair cosines) (triple cosines) 256 512 (and-l (sums cosines) (sizes cosines) passed) j k hj hk
+
+sized-at : (j : ℕ) → j ≤ 256 → T (sized (at cosines j) (at cosines (256 - j)))
+unfolding both sizes
+sized-at j h = alongside-at sized (at cosines) (λ j. at cosines (256 - j)) 257 257 (and-r (sums cosines) (sizes cosines) passed) j (omega arith)
+
+pub record Sized (c s : ℕ) : Type 0 where
+  pub alone : c ≤ 2 ^ 60
+  pub together : c + s ≤ 92682 * 2 ^ 44
+
+of-sized : (c s : ℕ) → T (sized c s) → Sized c s
+unfolding sized
+of-sized c s t = record { alone = leb→le _ _ (and-l (leb c (2 ^ 60)) (leb (c + s) (92682 * 2 ^ 44)) t); together = leb→le _ _ (and-r (leb c (2 ^ 60)) (leb (c + s) (92682 * 2 ^ 44)) t) }
+
+pub quarter-size : (j : ℕ) → j ≤ 256 → Sized (fine j) (fine (256 - j))
+quarter-size j h = rw (listed j h, listed (256 - j) (omega arith)) at (of-sized _ _ (sized-at j h))
+
+-- ---- the sum law in whole numbers: x and y of the sum, a and b of the one angle, p and r of the other
+
+pub record Sum-law (x y a b p r : ℤ) : Type 0 where
+  pub of-cosine : natAbs (x *ℤ pos (2 ^ 60) -ℤ (a *ℤ p -ℤ b *ℤ r)) ≤ 2 ^ 66
+  pub of-sine : natAbs (y *ℤ pos (2 ^ 60) -ℤ (b *ℤ p +ℤ a *ℤ r)) ≤ 2 ^ 66
+
+of-apart : (m n L : ℕ) (z : ℤ) → pos n -ℤ pos m ≡ z → T (leb (apart m n) L) → natAbs z ≤ L
+unfolding apart
+of-apart m n L z e t = rw (sym e) (let Γ = pos m ∷ pos n ∷ [] in omega (arith, abs-fact Γ (pos n -ℤ pos m) (search quotes depth 40), leb→le (m - n + (n - m)) L t))
+
+module _ (a b x y p q s U : ℕ) where
+  cosine-form : pos (b * y + p * U) -ℤ pos (a * x + q * U) ≡ (pos p -ℤ pos q) *ℤ pos U -ℤ (pos a *ℤ pos x -ℤ pos b *ℤ pos y)
+  cosine-form = ring (pos U ∷ pos a ∷ pos b ∷ pos x ∷ pos y ∷ pos p ∷ pos q ∷ []) (search quotes depth 40) tt
+
+  sine-form : pos (s * U) -ℤ pos (b * x + a * y) ≡ pos s *ℤ pos U -ℤ (pos b *ℤ pos x +ℤ pos a *ℤ pos y)
+  sine-form = ring (pos U ∷ pos a ∷ pos b ∷ pos x ∷ pos y ∷ pos s ∷ []) (search quotes depth 40) tt
+
+of-close : (a b : ℕ × ℕ) (z : ℕ × ℕ × ℕ) → T (close a b z) → Sum-law (pos (z .0) -ℤ pos (z .1)) (pos (z .2)) (pos (a .0)) (pos (a .1)) (pos (b .0)) (pos (b .1))
+unfolding close cosine-close sine-close
+of-close a b z t = record {
+  of-cosine = of-apart _ _ _ _ (cosine-form (a .0) (a .1) (b .0) (b .1) (z .0) (z .1) (z .2) (2 ^ 60)) (and-l (cosine-close a b z) (sine-close a b z) t);
+  of-sine = of-apart _ _ _ _ (sine-form (a .0) (a .1) (b .0) (b .1) (z .0) (z .1) (z .2) (2 ^ 60)) (and-r (cosine-close a b z) (sine-close a b z) t);
+}
+
+-- cosine and sine over the half turn are those of the test
+module _ (F : ℕ → ℕ) (end : F 256 ≡ 0) (i : ℕ) (h : i < 512) where
+  abbrev parts : Bool → ℕ × ℕ × ℕ
+  parts t = elim t [ true ↦ (F i, 0, F (256 - i)) | false ↦ (0, F (512 - i), F (i - 256)) ]
+
+  half-parts : (t : Bool) → (T t → i < 256) → (T (not t) → 256 ≤ i) → (cosine F i ≡ pos (parts t .0) -ℤ pos (parts t .1)) × (sine F i ≡ pos (parts t .2))
+  half-parts true f g = (cosine-first F i (omega (arith, f tt)) ∙ sym (+ℤ-idr (pos (F i))), sine-first F i (omega (arith, f tt)))
+  half-parts false f g = (
+    ap (cosine F) (up (g tt)) ∙ cosine-quarter F end (i - 256) ∙ ap negℤ (sine-first F (i - 256) (omega arith) ∙ ap (λ (x : ℕ). pos (F x)) (down (g tt))) ∙ sym (+ℤ-idl (negℤ (pos (F (512 - i))))),
+    ap (sine F) (up (g tt)) ∙ sine-quarter F end (i - 256) ∙ cosine-first F (i - 256) (omega arith),
+  )
+    where
+      up : 256 ≤ i → i ≡ i - 256 + 256
+      up k = omega arith
+
+      down : 256 ≤ i → 256 - (i - 256) ≡ 512 - i
+      down k = omega arith
+
+half-turn-parts : (i : ℕ) → i < 512 → (cosine (at cosines) i ≡ pos (triple cosines i .0) -ℤ pos (triple cosines i .1)) × (sine (at cosines) i ≡ pos (triple cosines i .2))
+unfolding triple
+half-turn-parts i h = half-parts (at cosines) (listed 256 (omega arith) ∙ fine-end) i h (ltb i 256) (ltb→lt i 256) (nltb→le i 256)
+
+listed-sum : (j k : ℕ) → j < 256 → k < 256 → let c = cosine (at cosines) in let s = sine (at cosines) in Sum-law (c (j + k)) (s (j + k)) (c j) (s j) (c k) (s k)
+unfolding pair
+listed-sum j k hj hk = rw (half-turn-parts (j + k) (omega arith) .0, half-turn-parts (j + k) (omega arith) .1, cosine-first (at cosines) j (omega arith), sine-first (at cosines) j (omega arith), cosine-first (at cosines) k (omega arith), sine-first (at cosines) k (omega arith))
+    (of-close (pair cosines j) (pair cosines k) (triple cosines (j + k)) (close-at j k hj hk))
+
+pub quarter-sum : (j k : ℕ) → j < 256 → k < 256 → Sum-law (cosine fine (j + k)) (sine fine (j + k)) (cosine fine j) (sine fine j) (cosine fine k) (sine fine k)
+quarter-sum j k hj hk = rw (fun-ext (cosine-cong (at cosines) fine listed), fun-ext (sine-cong (at cosines) fine listed)) at (listed-sum j k hj hk)

@@ -1,0 +1,52 @@
+-- Document 01, Cosines. A step is a 1,024th of a turn; F stands for the cosines of a quarter, at 0 to 256 steps.
+use mathlib.Core.Bool.{Bool, true, false, cond}
+use Prim.Native.Nat.{ℕ, zero, suc, _+_, _-_, _*_, _/_, _%_, _^_, min}
+use lib.Dec.{leb, eqb}
+use lib.IntN.{ℤ, pos, negℤ, natAbs, _+ℤ_, _*ℤ_}
+use Rattle.refusal.specs.Kind.{TURN}
+use Rattle.cosine.specs.Root.{root}
+
+-- ---- the whole turn of a quarter F, by the cosine's symmetries
+
+-- odd about 256: the cosine at k steps, 0 to 512, is F(k) if k is at most 256, else minus F(512 - k)
+unfoldable pub halfTurn : (ℕ → ℕ) → ℕ → ℤ
+halfTurn F k = elim (leb k 256) [ true ↦ pos (F k) | false ↦ negℤ (pos (F (512 - k))) ]
+
+-- even about 0: j steps are as far from the nearest whole turn, 0 to 512 steps, on either side of it
+abbrev pub away : ℕ → ℕ
+away j = min (j % TURN) (TURN - j % TURN)
+
+unfoldable pub cosine : (ℕ → ℕ) → ℕ → ℤ
+unfolding halfTurn
+cosine F j = halfTurn F (away j)
+
+-- the sine at j is the cosine at j - 256, that is, a turn on, at j + 768
+unfoldable pub sine : (ℕ → ℕ) → ℕ → ℤ
+unfolding cosine
+sine F j = cosine F (j + 768)
+
+-- cas is cosine plus sine
+unfoldable pub cas : (ℕ → ℕ) → ℕ → ℤ
+unfolding cosine sine
+cas F j = cosine F j +ℤ sine F j
+
+-- ---- the fine cosines F(j), at scale 2^60
+
+-- F(0) = 2^60, F(256) = 0, and for 0 < j < 256 the half-angle law: the whole square root of (2^60 + G) × 2^59, where G is the cosine
+-- of 2j, that is F(2j) or minus F(512 - 2j). By recursion on d, the doublings that are left.
+unfoldable pub fineWith : ℕ → ℕ → ℕ
+unfolding root halfTurn
+fineWith zero j = cond (eqb j 0) (2 ^ 60) 0
+fineWith (suc d) j = elim (eqb j 0) [ true ↦ 2 ^ 60 | false ↦ elim (eqb j 256) [ true ↦ 0 | false ↦ root (natAbs ((pos (2 ^ 60) +ℤ halfTurn (fineWith d) (2 * j)) *ℤ pos (2 ^ 59))) ] ]
+
+-- F(j): eight doublings lead from every j to 0 or 256
+unfoldable pub fine : ℕ → ℕ
+unfolding fineWith
+fine j = fineWith 8 j
+
+-- ---- the quarter table at scale 2^s
+
+-- T(j) = (F(j) + 2^(59-s)) / 2^(60-s), rounded down; document 01's is s = 15: (F(j) + 2^44) / 2^45
+unfoldable pub quarterTable : ℕ → ℕ → ℕ
+unfolding fine
+quarterTable s j = (fine j + 2 ^ (59 - s)) / 2 ^ (60 - s)
