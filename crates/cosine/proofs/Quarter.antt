@@ -8,26 +8,22 @@ use native.Mathlib.Omega.{arith}
 use lib.Dec.{T, leb, ltb, leb→le, ltb→lt, nltb→le}
 use lib.Ieee.Fits.{and-l, and-r}
 use lib.IntN.{ℤ, pos, negℤ, natAbs, _+ℤ_, _-ℤ_, _*ℤ_, +ℤ-idl, +ℤ-idr}
-use lib.ListN.{getD}
 use Rattle.ints.specs.Tabulate.{tabulate}
 use Rattle.ints.proofs.Ring.{ring, quotes}
 use Rattle.ints.proofs.Abs.{abs-fact}
-use Rattle.ints.proofs.Tables.{alongside, alongside-at, triangle, triangle-at, getD-tabulate}
-use Rattle.cosine.specs.Cosine.{cosine, sine, fine}
-use Rattle.cosine.proofs.Turn.{cosine-first, sine-first, cosine-quarter, sine-quarter, cosine-cong, sine-cong}
+use Rattle.ints.proofs.Tables.{alongside, alongside-at, triangle, triangle-at}
+use Rattle.cosine.specs.Cosine.{entries, cosine, sine, fine}
+use Rattle.cosine.proofs.Turn.{cosine-first, sine-first, cosine-quarter, sine-quarter, listed, cosine-listed, sine-listed}
 use Rattle.cosine.proofs.Fine.{fine-end}
 
 -- ---- the test, over a list q of a quarter's cosines
 
-abbrev at : List ℕ → ℕ → ℕ
-at q j = getD q j 0
-
 -- cosine and sine at j steps, 0 to 255; and at 0 to 511, where the cosine is the difference of the first two
 pair : List ℕ → ℕ → ℕ × ℕ
-pair q j = (at q j, at q (256 - j))
+pair q j = (entries q j, entries q (256 - j))
 
 triple : List ℕ → ℕ → ℕ × ℕ × ℕ
-triple q i = elim (ltb i 256) [ true ↦ (at q i, 0, at q (256 - i)) | false ↦ (0, at q (512 - i), at q (i - 256)) ]
+triple q i = elim (ltb i 256) [ true ↦ (entries q i, 0, entries q (256 - i)) | false ↦ (0, entries q (512 - i), entries q (i - 256)) ]
 
 apart : ℕ → ℕ → ℕ
 apart a b = (a - b) + (b - a)
@@ -50,7 +46,7 @@ sums : List ℕ → Bool
 sums q = triangle close (tabulate 256 (pair q)) (tabulate 256 (pair q)) (tabulate 512 (triple q))
 
 sizes : List ℕ → Bool
-sizes q = alongside sized (tabulate 257 (at q)) (tabulate 257 (λ j. at q (256 - j)))
+sizes q = alongside sized (tabulate 257 (entries q)) (tabulate 257 (λ j. entries q (256 - j)))
 
 -- the fine cosines, listed, so that none is computed twice
 cosines : List ℕ
@@ -65,17 +61,17 @@ passed = tt
 
 -- ---- what it says at each step
 
-listed : (j : ℕ) → j ≤ 256 → at cosines j ≡ fine j
+cosines-are : (j : ℕ) → j ≤ 256 → entries cosines j ≡ fine j
 unfolding cosines
-listed j h = getD-tabulate 257 fine 0 j (omega arith)
+cosines-are = listed fine
 
 close-at : (j k : ℕ) → j < 256 → k < 256 → T (close (pair cosines j) (pair cosines k) (triple cosines (j + k)))
 unfolding both sums
 close-at j k hj hk = triangle-at close (pair cosines) (triple cosines) 256 512 (and-l (sums cosines) (sizes cosines) passed) j k hj hk
 
-sized-at : (j : ℕ) → j ≤ 256 → T (sized (at cosines j) (at cosines (256 - j)))
+sized-at : (j : ℕ) → j ≤ 256 → T (sized (entries cosines j) (entries cosines (256 - j)))
 unfolding both sizes
-sized-at j h = alongside-at sized (at cosines) (λ j. at cosines (256 - j)) 257 257 (and-r (sums cosines) (sizes cosines) passed) j (omega arith)
+sized-at j h = alongside-at sized (entries cosines) (λ j. entries cosines (256 - j)) 257 257 (and-r (sums cosines) (sizes cosines) passed) j (omega arith)
 
 pub record Sized (c s : ℕ) : Type 0 where
   pub alone : c ≤ 2 ^ 60
@@ -86,7 +82,7 @@ unfolding sized
 of-sized c s t = record { alone = leb→le _ _ (and-l (leb c (2 ^ 60)) (leb (c + s) (92682 * 2 ^ 44)) t); together = leb→le _ _ (and-r (leb c (2 ^ 60)) (leb (c + s) (92682 * 2 ^ 44)) t) }
 
 pub quarter-size : (j : ℕ) → j ≤ 256 → Sized (fine j) (fine (256 - j))
-quarter-size j h = rw (listed j h, listed (256 - j) (omega arith)) at (of-sized _ _ (sized-at j h))
+quarter-size j h = rw (cosines-are j h, cosines-are (256 - j) (omega arith)) at (of-sized _ _ (sized-at j h))
 
 -- ---- the sum law in whole numbers: x and y of the sum, a and b of the one angle, p and r of the other
 
@@ -130,14 +126,15 @@ module _ (F : ℕ → ℕ) (end : F 256 ≡ 0) (i : ℕ) (h : i < 512) where
       down : 256 ≤ i → 256 - (i - 256) ≡ 512 - i
       down k = omega arith
 
-half-turn-parts : (i : ℕ) → i < 512 → (cosine (at cosines) i ≡ pos (triple cosines i .0) -ℤ pos (triple cosines i .1)) × (sine (at cosines) i ≡ pos (triple cosines i .2))
+half-turn-parts : (i : ℕ) → i < 512 → (cosine (entries cosines) i ≡ pos (triple cosines i .0) -ℤ pos (triple cosines i .1)) × (sine (entries cosines) i ≡ pos (triple cosines i .2))
 unfolding triple
-half-turn-parts i h = half-parts (at cosines) (listed 256 (omega arith) ∙ fine-end) i h (ltb i 256) (ltb→lt i 256) (nltb→le i 256)
+half-turn-parts i h = half-parts (entries cosines) (cosines-are 256 (omega arith) ∙ fine-end) i h (ltb i 256) (ltb→lt i 256) (nltb→le i 256)
 
-listed-sum : (j k : ℕ) → j < 256 → k < 256 → let c = cosine (at cosines) in let s = sine (at cosines) in Sum-law (c (j + k)) (s (j + k)) (c j) (s j) (c k) (s k)
+listed-sum : (j k : ℕ) → j < 256 → k < 256 → let c = cosine (entries cosines) in let s = sine (entries cosines) in Sum-law (c (j + k)) (s (j + k)) (c j) (s j) (c k) (s k)
 unfolding pair
-listed-sum j k hj hk = rw (half-turn-parts (j + k) (omega arith) .0, half-turn-parts (j + k) (omega arith) .1, cosine-first (at cosines) j (omega arith), sine-first (at cosines) j (omega arith), cosine-first (at cosines) k (omega arith), sine-first (at cosines) k (omega arith))
+listed-sum j k hj hk = rw (half-turn-parts (j + k) (omega arith) .0, half-turn-parts (j + k) (omega arith) .1, cosine-first (entries cosines) j (omega arith), sine-first (entries cosines) j (omega arith), cosine-first (entries cosines) k (omega arith), sine-first (entries cosines) k (omega arith))
     (of-close (pair cosines j) (pair cosines k) (triple cosines (j + k)) (close-at j k hj hk))
 
 pub quarter-sum : (j k : ℕ) → j < 256 → k < 256 → Sum-law (cosine fine (j + k)) (sine fine (j + k)) (cosine fine j) (sine fine j) (cosine fine k) (sine fine k)
-quarter-sum j k hj hk = rw (fun-ext (cosine-cong (at cosines) fine listed), fun-ext (sine-cong (at cosines) fine listed)) at (listed-sum j k hj hk)
+unfolding cosines
+quarter-sum j k hj hk = rw (fun-ext (cosine-listed fine), fun-ext (sine-listed fine)) at (listed-sum j k hj hk)

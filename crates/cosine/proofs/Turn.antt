@@ -7,7 +7,9 @@ use native.Mathlib.Nat.{add-mul-mod-self-right, mod-add-mod, mod-lt}
 use native.Mathlib.Omega.{arith}
 use lib.Dec.{T, leb, ltb, leb→le, nleb→lt, le→leb, ltb→lt, nltb→le}
 use lib.IntN.{ℤ, pos, negℤ, natAbs, negℤ-negℤ, _+ℤ_}
-use Rattle.cosine.specs.Cosine.{halfTurn, away, cosine, sine, cas}
+use Rattle.ints.specs.Tabulate.{tabulate}
+use Rattle.ints.proofs.Tables.{getD-tabulate}
+use Rattle.cosine.specs.Cosine.{entries, halfTurn, away, cosine, sine}
 
 -- ---- the way to the nearest whole turn
 
@@ -108,6 +110,16 @@ module _ (F G : ℕ → ℕ) (same : (j : ℕ) → j ≤ 256 → F j ≡ G j) wh
 
   pub sine-cong : (j : ℕ) → sine F j ≡ sine G j
   sine-cong = over-sine F G (λ a b. a ≡ b) (λ a b. ap negℤ) (λ j h. ap pos (same j h))
+
+-- so a quarter may be listed
+pub listed : (F : ℕ → ℕ) (j : ℕ) → j ≤ 256 → entries (tabulate 257 F) j ≡ F j
+listed F j h = getD-tabulate 257 F 0 j (omega arith)
+
+pub cosine-listed : (F : ℕ → ℕ) (j : ℕ) → cosine (entries (tabulate 257 F)) j ≡ cosine F j
+cosine-listed F = cosine-cong (entries (tabulate 257 F)) F (listed F)
+
+pub sine-listed : (F : ℕ → ℕ) (j : ℕ) → sine (entries (tabulate 257 F)) j ≡ sine F j
+sine-listed F = sine-cong (entries (tabulate 257 F)) F (listed F)
 
 -- ---- for a quarter that ends in 0
 

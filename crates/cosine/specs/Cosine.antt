@@ -1,10 +1,16 @@
 -- Document 01, Cosines. A step is a 1,024th of a turn; F stands for the cosines of a quarter, at 0 to 256 steps.
 use mathlib.Core.Bool.{Bool, true, false, cond}
+use mathlib.Core.List.{List}
 use Prim.Native.Nat.{ℕ, zero, suc, _+_, _-_, _*_, _/_, _%_, _^_, min}
 use lib.Dec.{leb, eqb}
 use lib.IntN.{ℤ, pos, negℤ, natAbs, _+ℤ_, _*ℤ_}
+use lib.ListN.{getD}
 use Rattle.refusal.specs.Kind.{TURN}
 use Rattle.cosine.specs.Root.{root}
+
+-- a quarter's cosines as a list has them
+abbrev pub entries : List ℕ → ℕ → ℕ
+entries quarter j = getD quarter j 0
 
 -- ---- the whole turn of a quarter F, by the cosine's symmetries
 
@@ -44,7 +50,7 @@ unfoldable pub fine : ℕ → ℕ
 unfolding fineWith
 fine j = fineWith 8 j
 
--- ---- the quarter table at scale 2^s
+-- ---- the quarter table at scale 2^s, 257 numbers
 
 -- T(j) = (F(j) + 2^(59-s)) / 2^(60-s), rounded down; document 01's is s = 15: (F(j) + 2^44) / 2^45
 unfoldable pub quarterTable : ℕ → ℕ → ℕ

@@ -4,20 +4,20 @@ mod table;
 use refusal::BlockKind;
 ghost use mathlib.Core.Path.{_≡_};
 ghost use lib.IntN.{pos};
-ghost use lib.ListN.{getD};
 ghost use Rattle.ints.specs.Tabulate.{tabulate};
-ghost use Rattle.cosine.specs.Cosine.{away, cosine, sine, quarterTable};
+ghost use Rattle.refusal.specs.Kind.{SCALE-DIGITS};
+ghost use Rattle.cosine.specs.Cosine.{away, cosine, entries, sine, quarterTable};
 
 // The engine's quarter table: T(0) to T(256).
 pub fn quarter_table() -> [u32; 257]
-    ensures { λ t. ⌜ t ≡ tabulate 257 (quarterTable 15) ⌝ }
+    ensures { λ t. ⌜ t ≡ tabulate 257 (quarterTable SCALE-DIGITS) ⌝ }
 {
     table::QUARTER
 }
 
 // The cosine of a step, whatever its number, from the cosines of a quarter turn: odd about 256, even about 0.
 pub fn cosine(quarter: &[u32; 257], step: usize) -> i64
-    ensures { λ c. ⌜ c ≡ cosine (λ j. getD (now (quarter .entry)) j 0) step ⌝ }
+    ensures { λ c. ⌜ c ≡ cosine (entries (now (quarter .entry))) step ⌝ }
 {
     let k = steps_away(step);
     if k <= 256 {
@@ -29,7 +29,7 @@ pub fn cosine(quarter: &[u32; 257], step: usize) -> i64
 
 // The sine of a step: the cosine 256 steps back, which is 768 on.
 pub fn sine(quarter: &[u32; 257], step: usize) -> i64
-    ensures { λ s. ⌜ s ≡ sine (λ j. getD (now (quarter .entry)) j 0) step ⌝ }
+    ensures { λ s. ⌜ s ≡ sine (entries (now (quarter .entry))) step ⌝ }
 {
     cosine(quarter, step % BlockKind::TURN + 768)
 }

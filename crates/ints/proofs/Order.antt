@@ -4,13 +4,14 @@
 -- proves a +ℤ a ≼ b +ℤ b. The terms of b − a are moved to the side where they are positive, each product of atoms being the difference
 -- of two naturals of which `omega` knows nothing.
 use mathlib.Core.Path.{_≡_, refl, sym, _∙_, ap, ap₂, subst}
-use mathlib.Core.Bool.{Bool, true, false, not, cond}
+use mathlib.Core.Bool.{Bool, true, false, not, cond, _&&_}
 use mathlib.Core.List.{List, [], _∷_}
 use mathlib.Core.Logic.{_⊎_, inl, inr, ⊎-elim}
 use Prim.Native.Nat.{ℕ, zero, suc, _+_, _*_, _-_, _≤_, _<_}
 use native.Mathlib.Nat.{zero-add}
 use native.Mathlib.Omega.{arith}
 use lib.Dec.{T, ltb, leb→le, le→leb}
+use lib.Ieee.Fits.{and-l, and-r}
 use lib.IntN.{ℤ, pos, negsuc, negℤ, natAbs, _+ℤ_, _-ℤ_, _*ℤ_, +ℤ-idr, +ℤ-invl}
 use lib.Signed.{leZ, ltZ, _≤ℤ_, _<ℤ_, leZ-yes, ltZ-yes, ltZ-no, clashℤ}
 use Rattle.ints.proofs.Ring.{Built, Sides, Poly, none, term, sides, factor, product, value, normal, normal-ok, add, add-ok, negate, negate-ok, ring, quotes}
@@ -219,6 +220,10 @@ pub *-mono : {a b : ℤ} (c : ℕ) → a ≼ b → pos c *ℤ a ≼ pos c *ℤ b
 pub *-cancel-≺ : {a b : ℤ} (c : ℕ) → pos c *ℤ a ≺ pos c *ℤ b → a ≺ b
 *-cancel-≺ {a} {b} c h = ⊎-elim (λ k. clashℤ h (*-mono c k)) (λ k. k) (≼-total b a)
 
--- two closed integers are equal: `closed tt tt`. (`refl` would compare the terms before it computes them.)
-pub closed : {a b : ℤ} → T (leZ a b) → T (leZ b a) → a ≡ b
-closed s t = ≼-antisym (leZ-yes s) (leZ-yes t)
+-- a test that computes: `equal-is a b tt` at closed integers. (`refl` would compare the terms before it computes them.)
+unfoldable pub equal : ℤ → ℤ → Bool
+equal a b = leZ a b && leZ b a
+
+pub equal-is : (a b : ℤ) → T (equal a b) → a ≡ b
+unfolding equal
+equal-is a b t = ≼-antisym (leZ-yes (and-l (leZ a b) (leZ b a) t)) (leZ-yes (and-r (leZ a b) (leZ b a) t))

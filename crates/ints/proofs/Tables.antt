@@ -1,12 +1,12 @@
 -- Tests that are computed once over a whole list and then hold at each entry.
--- Example: `same-list xs (tabulate n f) tt : xs ≡ tabulate n f`, where antt computes both lists, and `getD-tabulate` for one entry of it.
+-- Example: `same-list eqb eqb→eq xs (tabulate n f) tt : xs ≡ tabulate n f`, where antt computes both lists; `getD-tabulate` for one entry of it.
 use mathlib.Core.Path.{_≡_, refl, sym, _∙_, ap, ap₂}
 use mathlib.Core.Bool.{Bool, true, false, _&&_}
 use mathlib.Core.List.{List, [], _∷_}
 use Prim.Native.Nat.{ℕ, zero, suc, _+_, _<_}
 use native.Mathlib.Nat.{add-zero, zero-add, add-suc, suc-add}
 use native.Mathlib.Omega.{arith}
-use lib.Dec.{T, eqb, eqb→eq}
+use lib.Dec.{T}
 use lib.Ieee.Fits.{and-l, and-r}
 use lib.ListN.{getD, length}
 use Rattle.ints.specs.Tabulate.{tabulateFrom, tabulate}
@@ -35,20 +35,20 @@ pub length-tabulate : {A : Type 0} (n : ℕ) (f : ℕ → A) → length (tabulat
 unfolding tabulate
 length-tabulate n f = length-from n 0 f
 
--- ---- two lists of numbers
+-- ---- two lists, by a test of their entries
 
-unfoldable pub same : List ℕ → List ℕ → Bool
-same [] [] = true
-same [] (y ∷ ys) = false
-same (x ∷ xs) [] = false
-same (x ∷ xs) (y ∷ ys) = eqb x y && same xs ys
+unfoldable pub same : {A : Type 0} → (A → A → Bool) → List A → List A → Bool
+same t [] [] = true
+same t [] (y ∷ ys) = false
+same t (x ∷ xs) [] = false
+same t (x ∷ xs) (y ∷ ys) = t x y && same t xs ys
 
-pub same-list : (xs ys : List ℕ) → T (same xs ys) → xs ≡ ys
+pub same-list : {A : Type 0} (t : A → A → Bool) → ((x y : A) → T (t x y) → x ≡ y) → (xs ys : List A) → T (same t xs ys) → xs ≡ ys
 unfolding same
-same-list [] [] t = refl
-same-list [] (y ∷ ys) t = absurd t
-same-list (x ∷ xs) [] t = absurd t
-same-list (x ∷ xs) (y ∷ ys) t = ap₂ (λ (z : ℕ) (zs : List ℕ). z ∷ zs) (eqb→eq x y (and-l (eqb x y) (same xs ys) t)) (same-list xs ys (and-r (eqb x y) (same xs ys) t))
+same-list t sound [] [] h = refl
+same-list t sound [] (y ∷ ys) h = absurd h
+same-list t sound (x ∷ xs) [] h = absurd h
+same-list t sound (x ∷ xs) (y ∷ ys) h = ap₂ (λ z zs. z ∷ zs) (sound x y (and-l (t x y) (same t xs ys) h)) (same-list t sound xs ys (and-r (t x y) (same t xs ys) h))
 
 -- ---- two tables side by side, and a triangle of three: a test of f j, f k and g (j + k) for all j and k
 

@@ -1,6 +1,7 @@
 // Whole numbers: the laws that later proofs cite (proofs/), and the rounded quotient.
 ghost use mathlib.Core.Path.{_≡_};
 ghost use Prim.Native.Nat.{_^_};
+ghost use lib.IntN.{natAbs};
 ghost use Rattle.ints.specs.Quotient.{rounded};
 
 // x divided by 2^digits, rounded to the nearest whole number, halves up (document 01, Levels 3), for every x and every number of digits.
@@ -16,4 +17,15 @@ pub fn rounded(x: i64, digits: usize) -> i64
     }
     let halves = x >> (digits - 1);
     halves - (halves >> 1)
+}
+
+// The absolute value of x, for every x.
+pub fn magnitude(x: i64) -> u64
+    ensures { λ r. ⌜ r ≡ natAbs x ⌝ }
+{
+    if x < 0 {
+        (-1 - x) as u64 + 1
+    } else {
+        x as u64
+    }
 }

@@ -6,15 +6,20 @@ use Rattle.refusal.specs.declared.Refusal.the-variants.{Length}
 use Rattle.refusal.specs.declared.KindAnswer.{KindAnswer}
 use Rattle.refusal.specs.declared.KindAnswer.the-variants.{Kind, Refused}
 
--- the largest length of a block, the steps of a turn, and the scale of the quarter table
+-- the largest length of a block
 abbrev pub LARGEST : ℕ
 LARGEST = 1024
 
+-- the steps of a turn
 abbrev pub TURN : ℕ
 TURN = 1024
 
+-- the scale of the quarter table, 2^15 = 32,768
+abbrev pub SCALE-DIGITS : ℕ
+SCALE-DIGITS = 15
+
 abbrev pub SCALE : ℕ
-SCALE = 32768
+SCALE = 2 ^ SCALE-DIGITS
 
 -- the P from 1 to `most` with 2^P = n, or 0 where there is none
 unfoldable pub exponent : ℕ → ℕ → ℕ

@@ -81,8 +81,9 @@ impl BlockKind {
     pub const LARGEST: usize = 1024;
     // The steps of a turn.
     pub const TURN: usize = 1024;
-    // The scale of the quarter table.
+    // The scale of the quarter table, and its binary digits.
     pub const SCALE: usize = 32768;
+    pub const SCALE_DIGITS: usize = 15;
 
     // The kind of a block of len cells, or refusal 1.
     pub fn of_len(len: usize) -> KindAnswer

@@ -1,4 +1,5 @@
 -- `quarter_table` is right by one test that is computed over the whole table: each of its 257 numbers is the rule's.
+use lib.Dec.{eqb, eqb→eq}
 use Rattle.ints.specs.Tabulate.{tabulate}
 use Rattle.ints.proofs.Tables.{same, same-list}
 use Rattle.cosine.specs.Cosine.{quarterTable}
@@ -7,7 +8,7 @@ use Rattle.cosine.proofs.quarter_table.Tie as tie
 
 returns : tie.Need-returns
 unfolding same tabulate quarterTable
-returns c = same-list _ (tabulate 257 (quarterTable 15)) tt
+returns c = same-list eqb eqb→eq _ (tabulate 257 (quarterTable 15)) tt
 
 pub quarter-table-spec : {M : Type 1} → statement M
 quarter-table-spec = tie.close (tie.spec returns)
