@@ -40,7 +40,7 @@ loop-holds c = (omega arith, omega arith, refl, λ q h k e. omega arith)
 
 returns : tie.Need-returns Inv-loop μ-loop
 returns c = let i = c .before .before .loop .inv in
-    sym (kind-given _ _ (record { least = i .0; most = within _ (rw (i .2) at (c .before .loop-test .taken)); cells = sym (c .if1 .taken) ∙ i .2 }))
+    sym (kind-given _ _ (record { least = i .0; most = within (c .before .before .loop .p) (omega arith); cells = sym (c .if1 .taken) ∙ i .2 }))
 
 mul-cells : tie.Need-mul-cells Inv-loop μ-loop
 mul-cells c = omega arith
@@ -49,19 +49,15 @@ add-p : tie.Need-add-p Inv-loop μ-loop
 add-p c = omega arith
 
 loop-less : tie.Need-loop-less Inv-loop μ-loop
-loop-less c = let i = c .before .before .loop .inv in omega (arith, within (c .before .before .loop .p) (rw (i .2) at (c .before .loop-test .taken)))
+loop-less c = omega (arith, within (c .before .before .loop .p) (omega arith))
 
 loop-again : tie.Need-loop-again Inv-loop μ-loop
-loop-again c = let i = c .before .before .loop .inv in let p = c .before .before .loop .p in (
-  omega arith,
-  omega (arith, within p (rw (i .2) at (c .before .loop-test .taken))),
-  rw (add-one p, pow-suc 2 p, mul-comm (2 ^ p) 2, i .2) refl,
-  below-more _ _ (i .3) (λ h e. c .if1 .left (i .2 ∙ e)),
-)
+loop-again c = let i = c .before .before .loop .inv in let p = c .before .before .loop .p in
+    (omega arith, omega (arith, within p (omega arith)), rw (add-one p, pow-suc 2 p, mul-comm (2 ^ p) 2, i .2) refl, below-more _ _ (i .3) (λ h e. c .if1 .left (i .2 ∙ e)))
 
 returns-2 : tie.Need-returns-2 Inv-loop μ-loop
 returns-2 c = let i = c .before .loop .inv in
-    sym (kind-refused _ (λ P k. i .3 P (omega (arith, beyond (c .before .loop .p) (rw (i .2) at (c .loop-test .left)), k .most)) (k .least) (sym (k .cells))))
+    sym (kind-refused _ (λ P k. i .3 P (omega (arith, beyond (c .before .loop .p) (omega arith), k .most)) (k .least) (sym (k .cells))))
 
 pub of-len-spec : {M : Type 1} → statement M
 of-len-spec = tie.close (tie.spec Inv-loop μ-loop loop-holds returns mul-cells add-p loop-less loop-again returns-2)
