@@ -78,14 +78,14 @@ on : (m j : ℕ) → (cosine fine (j + m * 256) ≡ cosine fine j *ℤ unit m .0
 unfolding unit
 on zero j = (
   ap (cosine fine) none ∙ ring (cosine fine j ∷ sine fine j ∷ []) (search quotes depth 40) tt,
-  ap (sine fine) none ∙ ring (cosine fine j ∷ sine fine j ∷ []) (search quotes depth 40) tt,
+  ap (sine fine) none ∙ ring (cosine fine j ∷ sine fine j ∷ []) (search quotes) tt,
 )
   where
     none : j + 0 * 256 ≡ j
     none = omega arith
 on (suc m) j = (
-  ap (cosine fine) more ∙ cosine-quarter fine fine-end (j + m * 256) ∙ ap negℤ (on m j .1) ∙ ring (cosine fine j ∷ sine fine j ∷ unit m .0 ∷ unit m .1 ∷ []) (search quotes depth 40) tt,
-  ap (sine fine) more ∙ sine-quarter fine fine-end (j + m * 256) ∙ on m j .0 ∙ ring (cosine fine j ∷ sine fine j ∷ unit m .0 ∷ unit m .1 ∷ []) (search quotes depth 40) tt,
+  ap (cosine fine) more ∙ cosine-quarter fine fine-end (j + m * 256) ∙ ap negℤ (on m j .1) ∙ ring (cosine fine j ∷ sine fine j ∷ unit m .0 ∷ unit m .1 ∷ []) (search quotes) tt,
+  ap (sine fine) more ∙ sine-quarter fine fine-end (j + m * 256) ∙ on m j .0 ∙ ring (cosine fine j ∷ sine fine j ∷ unit m .0 ∷ unit m .1 ∷ []) (search quotes) tt,
 )
   where
     more : j + suc m * 256 ≡ j + m * 256 + 256
@@ -103,7 +103,7 @@ cosine-quarters m = ap (cosine fine) (sym (zero-add (m * 256))) ∙ on m 0 .0 �
 
 pub sine-quarters : (m : ℕ) → sine fine (m * 256) ≡ unit m .1 *ℤ pos (2 ^ 60)
 sine-quarters m = ap (sine fine) (sym (zero-add (m * 256))) ∙ on m 0 .1 ∙ ap₂ (λ (c s : ℤ). s *ℤ unit m .0 +ℤ c *ℤ unit m .1) cosine-zero sine-zero
-    ∙ ring (unit m .0 ∷ unit m .1 ∷ []) (search quotes depth 40) tt
+    ∙ ring (unit m .0 ∷ unit m .1 ∷ []) (search quotes) tt
 
 pub cas-quarters : (m j : ℕ) → cas fine (j + m * 256) ≡ cas fine j *ℤ unit m .0 +ℤ opposite j *ℤ unit m .1
 unfolding cas

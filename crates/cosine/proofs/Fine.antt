@@ -71,12 +71,7 @@ at-end (suc d) = refl
 
 between : (d j : ℕ) → 0 < j → j < 256 → fineWith (suc d) j ≡ halved (fineWith d) j
 unfolding fineWith
-between d j a b = go (eqb j 0) (ne-eqb j 0 (λ e. omega arith)) (eqb j 256) (ne-eqb j 256 (λ e. omega arith))
-  where
-    go : (s : Bool) → s ≡ false → (t : Bool) → t ≡ false → elim s [ true ↦ 2 ^ 60 | false ↦ elim t [ true ↦ 0 | false ↦ halved (fineWith d) j ] ] ≡ halved (fineWith d) j
-    go true e t f = absurd (true≢false e)
-    go false e true f = absurd (true≢false f)
-    go false e false f = refl
+between d j a b = rw (ne-eqb j 0 (λ e. omega arith), ne-eqb j 256 (λ e. omega arith)) refl
 
 settled : (d j : ℕ) → j ≤ 256 → Leads d j → fineWith d j ≡ fineWith (suc d) j
 settled zero = ends-or-between (λ j. Leads 0 j → fineWith 0 j ≡ fineWith 1 j) (λ l. at-top 0 ∙ sym (at-top 1)) (λ l. at-end 0 ∙ sym (at-end 1)) (λ j a b l. absurd (never j a b l))

@@ -24,7 +24,7 @@ module _ (h : ℕ) (z : 0 < h) (f : ℕ) where
   off = go (2 * h * ((f + h) / (2 * h))) ((f + h) % (2 * h)) (div-add-mod (f + h) (2 * h)) (mod-lt (f + h) (omega arith))
     where
       go : (t r : ℕ) → t + r ≡ f + h → r < 2 * h → natAbs (pos t -ℤ pos f) ≤ h
-      go t r e k = let Γ = pos t ∷ pos f ∷ [] in omega (arith, abs-fact Γ (pos t -ℤ pos f) (search quotes depth 40))
+      go t r e k = let Γ = pos t ∷ pos f ∷ [] in omega (arith, abs-fact Γ (pos t -ℤ pos f) (search quotes))
 
   scaled : (q : ℕ) → natAbs (pos nearest *ℤ pos (2 * (h * q)) -ℤ pos f *ℤ pos q) ≤ h * q
   scaled q = rw (out, abs-times (pos q) (pos (2 * h * nearest) -ℤ pos f)) (omega (arith, mul-le-mul-left q off))

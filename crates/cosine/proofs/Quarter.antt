@@ -92,7 +92,7 @@ pub record Sum-law (x y a b p r : ℤ) : Type 0 where
 
 of-apart : (m n L : ℕ) (z : ℤ) → pos n -ℤ pos m ≡ z → T (leb (apart m n) L) → natAbs z ≤ L
 unfolding apart
-of-apart m n L z e t = rw (sym e) (let Γ = pos m ∷ pos n ∷ [] in omega (arith, abs-fact Γ (pos n -ℤ pos m) (search quotes depth 40), leb→le (m - n + (n - m)) L t))
+of-apart m n L z e t = rw (sym e) (let Γ = pos m ∷ pos n ∷ [] in omega (arith, abs-fact Γ (pos n -ℤ pos m) (search quotes), leb→le (m - n + (n - m)) L t))
 
 module _ (a b x y p q s U : ℕ) where
   cosine-form : pos (b * y + p * U) -ℤ pos (a * x + q * U) ≡ (pos p -ℤ pos q) *ℤ pos U -ℤ (pos a *ℤ pos x -ℤ pos b *ℤ pos y)

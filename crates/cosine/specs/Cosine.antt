@@ -43,7 +43,7 @@ cas F j = cosine F j +ℤ sine F j
 unfoldable pub fineWith : ℕ → ℕ → ℕ
 unfolding root halfTurn
 fineWith zero j = cond (eqb j 0) (2 ^ 60) 0
-fineWith (suc d) j = elim (eqb j 0) [ true ↦ 2 ^ 60 | false ↦ elim (eqb j 256) [ true ↦ 0 | false ↦ root (natAbs ((pos (2 ^ 60) +ℤ halfTurn (fineWith d) (2 * j)) *ℤ pos (2 ^ 59))) ] ]
+fineWith (suc d) j = cond (eqb j 0) (2 ^ 60) (cond (eqb j 256) 0 (root (natAbs ((pos (2 ^ 60) +ℤ halfTurn (fineWith d) (2 * j)) *ℤ pos (2 ^ 59)))))
 
 -- F(j): eight doublings lead from every j to 0 or 256
 unfoldable pub fine : ℕ → ℕ

@@ -1,5 +1,5 @@
 -- The absolute value, a natural number. Example: `abs-plus a b : natAbs (a +ℤ b) ≤ natAbs a + natAbs b`.
--- For `omega` a value |z| is what `abs-fact Γ z (search quotes depth 40)` says of it; Γ lists the atoms of z, as for `ring`.
+-- For `omega` a value |z| is what `abs-fact Γ z (search quotes)` says of it; Γ lists the atoms of z, as for `ring`.
 use mathlib.Core.Path.{_≡_, refl, sym, _∙_, ap}
 use mathlib.Core.List.{List, [], _∷_}
 use Prim.Native.Nat.{ℕ, zero, suc, _+_, _*_, _≤_, min}
@@ -14,7 +14,7 @@ of-parts (pos n) P M h = omega (arith, pos-inj h)
 of-parts (negsuc n) P M h = omega (arith, pos-inj g)
   where
     out : (x m : ℤ) → m ≡ x +ℤ (negℤ x +ℤ m)
-    out x m = ring (x ∷ m ∷ []) (search quotes depth 40) tt
+    out x m = ring (x ∷ m ∷ []) (search quotes) tt
 
     g : pos M ≡ pos (suc n + P)
     g = out (pos (suc n)) (pos M) ∙ ap (λ (z : ℤ). pos (suc n) +ℤ z) (sym h)
@@ -23,11 +23,11 @@ pub abs-fact : (Γ : List ℤ) (z : ℤ) (q : Built Γ z) → let P = gained Γ 
 abs-fact Γ z q = of-parts z (gained Γ (normal q)) (lost Γ (normal q)) (built-parts Γ q)
 
 pub abs-neg : (a : ℤ) → natAbs (negℤ a) ≡ natAbs a
-abs-neg a = let Γ = a ∷ [] in omega (arith, abs-fact Γ a (search quotes depth 40), abs-fact Γ (negℤ a) (search quotes depth 40))
+abs-neg a = let Γ = a ∷ [] in omega (arith, abs-fact Γ a (search quotes), abs-fact Γ (negℤ a) (search quotes))
 
 pub abs-plus : (a b : ℤ) → natAbs (a +ℤ b) ≤ natAbs a + natAbs b
 abs-plus a b = let Γ = a ∷ b ∷ [] in
-    omega (arith, abs-fact Γ a (search quotes depth 40), abs-fact Γ b (search quotes depth 40), abs-fact Γ (a +ℤ b) (search quotes depth 40))
+    omega (arith, abs-fact Γ a (search quotes), abs-fact Γ b (search quotes), abs-fact Γ (a +ℤ b) (search quotes))
 
 pub abs-minus : (a b : ℤ) → natAbs (a -ℤ b) ≤ natAbs a + natAbs b
 abs-minus a b = omega (arith, abs-plus a (negℤ b), abs-neg b)
@@ -40,14 +40,14 @@ abs-times (negsuc a) (negsuc b) = refl
 
 -- |z| ≤ n, as two orders, and back
 pub abs-upper : {z : ℤ} {n : ℕ} → natAbs z ≤ n → z ≼ pos n
-abs-upper {z} {n} h = let Γ = z ∷ pos n ∷ [] in le-goal Γ (search quotes depth 40) (omega (arith, abs-fact Γ z (search quotes depth 40)))
+abs-upper {z} {n} h = let Γ = z ∷ pos n ∷ [] in le-goal Γ (search quotes) (omega (arith, abs-fact Γ z (search quotes)))
 
 pub abs-lower : {z : ℤ} {n : ℕ} → natAbs z ≤ n → negℤ (pos n) ≼ z
-abs-lower {z} {n} h = let Γ = z ∷ pos n ∷ [] in le-goal Γ (search quotes depth 40) (omega (arith, abs-fact Γ z (search quotes depth 40)))
+abs-lower {z} {n} h = let Γ = z ∷ pos n ∷ [] in le-goal Γ (search quotes) (omega (arith, abs-fact Γ z (search quotes)))
 
 pub abs-between : {z : ℤ} {n : ℕ} → negℤ (pos n) ≼ z → z ≼ pos n → natAbs z ≤ n
 abs-between {z} {n} h k = let Γ = z ∷ pos n ∷ [] in
-    omega (arith, abs-fact Γ z (search quotes depth 40), le-fact Γ h (search quotes depth 40), le-fact Γ k (search quotes depth 40))
+    omega (arith, abs-fact Γ z (search quotes), le-fact Γ h (search quotes), le-fact Γ k (search quotes))
 
 pub abs-zero : (z : ℤ) → natAbs z ≤ 0 → z ≡ pos 0
 abs-zero (pos n) h = ap pos (omega arith)

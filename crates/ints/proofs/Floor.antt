@@ -21,19 +21,19 @@ shift-is-floor (negsuc n) m = refl
 
 pub floor-le : (z : ℤ) (m : ℕ) → zero < m → pos m *ℤ floor z m ≼ z
 unfolding floor
-floor-le (pos a) m h = let Γ = pos (m * (a / m)) ∷ pos a ∷ [] in le-goal Γ (search quotes depth 40) (omega (arith, div-add-mod a m))
+floor-le (pos a) m h = let Γ = pos (m * (a / m)) ∷ pos a ∷ [] in le-goal Γ (search quotes) (omega (arith, div-add-mod a m))
 floor-le (negsuc a) m h = turn (m * suc (a / m)) (suc a) (omega (arith, div-add-mod a m, mod-lt a h))
   where
     turn : (x y : ℕ) → y < suc x → negℤ (pos x) ≼ negℤ (pos y)
-    turn x y h = let Γ = pos x ∷ pos y ∷ [] in le-goal Γ (search quotes depth 40) (omega arith)
+    turn x y h = let Γ = pos x ∷ pos y ∷ [] in le-goal Γ (search quotes) (omega arith)
 
 pub floor-lt : (z : ℤ) (m : ℕ) → zero < m → z ≺ pos m *ℤ (floor z m +ℤ pos 1)
 unfolding floor
-floor-lt (pos a) m h = let Γ = pos (m * (a / m + 1)) ∷ pos a ∷ [] in lt-goal Γ (search quotes depth 40) (omega (arith, div-add-mod a m, mod-lt a h))
+floor-lt (pos a) m h = let Γ = pos (m * (a / m + 1)) ∷ pos a ∷ [] in lt-goal Γ (search quotes) (omega (arith, div-add-mod a m, mod-lt a h))
 floor-lt (negsuc a) m h = turn (suc (a / m)) (suc a) (omega (arith, div-add-mod a m, mod-lt a h))
   where
     turn : (q y : ℕ) → m * q < y + m → negℤ (pos y) ≺ pos m *ℤ (negℤ (pos q) +ℤ pos 1)
-    turn q y h = let Γ = pos m ∷ pos q ∷ pos y ∷ [] in lt-goal Γ (search quotes depth 40) (omega arith)
+    turn q y h = let Γ = pos m ∷ pos q ∷ pos y ∷ [] in lt-goal Γ (search quotes) (omega arith)
 
 -- ---- and no other q
 
@@ -45,7 +45,7 @@ floor-unique z m q h a b = ≼-antisym (low (floor z m) q (floor-le z m h) b) (l
 
 pub floor-exact : (m : ℕ) (q : ℤ) (r : ℕ) → r < m → floor (pos m *ℤ q +ℤ pos r) m ≡ q
 floor-exact m q r h = floor-unique (pos m *ℤ q +ℤ pos r) m q (omega arith) (≼-plus (pos m *ℤ q) r)
-    (let Γ = pos m ∷ q ∷ pos r ∷ [] in lt-goal Γ (search quotes depth 40) (omega arith))
+    (let Γ = pos m ∷ q ∷ pos r ∷ [] in lt-goal Γ (search quotes) (omega arith))
 
 pub record Rest (z : ℤ) (m : ℕ) : Type 0 where
   pub rest : ℕ
@@ -60,4 +60,4 @@ floor-rest z m h = go (gap (floor-le z m h))
       where
         less : e .0 < m
         less = let Γ = z ∷ pos m ∷ floor z m ∷ pos (e .0) ∷ [] in
-            omega (arith, lt-fact Γ (floor-lt z m h) (search quotes depth 40), eq-fact Γ (e .1) (search quotes depth 40))
+            omega (arith, lt-fact Γ (floor-lt z m h) (search quotes), eq-fact Γ (e .1) (search quotes))

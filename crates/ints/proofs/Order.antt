@@ -1,6 +1,6 @@
--- The order of ℤ, moved to ℕ, where `omega` decides it. A fact a ≼ b goes into the list of `omega` as `le-fact Γ h (search quotes depth 40)`,
--- and a goal is `le-goal Γ (search quotes depth 40) (omega (arith, ..))`; Γ lists the atoms, as for `ring`. The same for ≺ and ≡.
--- Example: with h : a ≼ b and Γ = a ∷ b ∷ [], `le-goal Γ (search quotes depth 40) (omega (arith, le-fact Γ h (search quotes depth 40)))`
+-- The order of ℤ, moved to ℕ, where `omega` decides it. A fact a ≼ b goes into the list of `omega` as `le-fact Γ h (search quotes)`,
+-- and a goal is `le-goal Γ (search quotes) (omega (arith, ..))`; Γ lists the atoms, as for `ring`. The same for ≺ and ≡.
+-- Example: with h : a ≼ b and Γ = a ∷ b ∷ [], `le-goal Γ (search quotes) (omega (arith, le-fact Γ h (search quotes)))`
 -- proves a +ℤ a ≼ b +ℤ b. The terms of b − a are moved to the side where they are positive, each product of atoms being the difference
 -- of two naturals of which `omega` knows nothing.
 use mathlib.Core.Path.{_≡_, refl, sym, _∙_, ap, ap₂, subst}
@@ -46,11 +46,11 @@ gap-of (pos a) (negsuc b) t = absurd t
 gap-of (negsuc a) (pos b) t = (b + suc a, cross (pos (suc a)) (pos b))
   where
     cross : (x y : ℤ) → y ≡ negℤ x +ℤ (y +ℤ x)
-    cross x y = ring (x ∷ y ∷ []) (search quotes depth 40) tt
+    cross x y = ring (x ∷ y ∷ []) (search quotes) tt
 gap-of (negsuc a) (negsuc b) t = (a - b, both (pos (suc b)) (pos (a - b)) ∙ ap (λ (n : ℕ). negℤ (pos n) +ℤ pos (a - b)) (e (leb→le b a t)))
   where
     both : (x y : ℤ) → negℤ x ≡ negℤ (x +ℤ y) +ℤ y
-    both x y = ring (x ∷ y ∷ []) (search quotes depth 40) tt
+    both x y = ring (x ∷ y ∷ []) (search quotes) tt
 
     e : b ≤ a → suc b + (a - b) ≡ suc a
     e h = omega arith
@@ -84,7 +84,7 @@ module _ (Γ : List ℤ) where
 
   monomial-ok : (m : List ℕ) → monomial m ≡ product Γ m
   monomial-ok [] = refl
-  monomial-ok (i ∷ []) = ring (factor Γ i ∷ []) (search quotes depth 40) tt
+  monomial-ok (i ∷ []) = ring (factor Γ i ∷ []) (search quotes) tt
   monomial-ok (i ∷ (j ∷ m)) = ap (λ (z : ℤ). factor Γ i *ℤ z) (monomial-ok (j ∷ m))
 
   abbrev pub gained : Poly → ℕ
@@ -103,7 +103,7 @@ module _ (Γ : List ℤ) where
       ∙ regroup (pos c) (product Γ m) (pos (negative (monomial m))) (value Γ p) (pos (lost p))
     where
       regroup : (c x n v l : ℤ) → c *ℤ (x +ℤ n) +ℤ (v +ℤ l) ≡ c *ℤ x +ℤ v +ℤ (c *ℤ n +ℤ l)
-      regroup c x n v l = ring (c ∷ x ∷ n ∷ v ∷ l ∷ []) (search quotes depth 40) tt
+      regroup c x n v l = ring (c ∷ x ∷ n ∷ v ∷ l ∷ []) (search quotes) tt
   poly-parts (term (negsuc c) m p) = ap (λ (t : ℤ). pos (suc c) *ℤ pos (negative (monomial m)) +ℤ t) (poly-parts p)
       ∙ regroup (pos (suc c)) (product Γ m) (pos (negative (monomial m))) (value Γ p) (pos (lost p))
       ∙ ap (λ (s : ℤ). negsuc c *ℤ product Γ m +ℤ value Γ p +ℤ (pos (suc c) *ℤ s +ℤ pos (lost p))) (sym (parts (monomial m) ∙ ap (λ (z : ℤ). z +ℤ pos (negative (monomial m))) (monomial-ok m)))
@@ -118,10 +118,10 @@ module _ (Γ : List ℤ) where
 
 module _ (a b : ℤ) (P M : ℕ) (g : pos P ≡ (b -ℤ a) +ℤ pos M) where
   gap-in-ℕ : (k : ℕ) → b ≡ a +ℤ pos k → P ≡ k + M
-  gap-in-ℕ k h = pos-inj (g ∙ ap (λ (z : ℤ). (z -ℤ a) +ℤ pos M) h ∙ ring (a ∷ pos k ∷ pos M ∷ []) (search quotes depth 40) tt)
+  gap-in-ℕ k h = pos-inj (g ∙ ap (λ (z : ℤ). (z -ℤ a) +ℤ pos M) h ∙ ring (a ∷ pos k ∷ pos M ∷ []) (search quotes) tt)
 
   gap-in-ℤ : (k : ℕ) → P ≡ k + M → b ≡ a +ℤ pos k
-  gap-in-ℤ k h = out a b (pos M) ∙ ap (λ (z : ℤ). a +ℤ (z -ℤ pos M)) (sym g) ∙ ap (λ (n : ℕ). a +ℤ (pos n -ℤ pos M)) h ∙ ring (a ∷ pos k ∷ pos M ∷ []) (search quotes depth 40) tt
+  gap-in-ℤ k h = out a b (pos M) ∙ ap (λ (z : ℤ). a +ℤ (z -ℤ pos M)) (sym g) ∙ ap (λ (n : ℕ). a +ℤ (pos n -ℤ pos M)) h ∙ ring (a ∷ pos k ∷ pos M ∷ []) (search quotes) tt
     where
       out : (a b m : ℤ) → b ≡ a +ℤ (((b -ℤ a) +ℤ m) -ℤ m)
       out a b m = ring (a ∷ b ∷ m ∷ []) (search quotes depth 40) tt
@@ -190,15 +190,15 @@ module _ (Γ : List ℤ) {a b : ℤ} where
 
 pub ≼-trans : {a b c : ℤ} → a ≼ b → b ≼ c → a ≼ c
 ≼-trans {a} {b} {c} h k = let Γ = a ∷ b ∷ c ∷ [] in
-    le-goal Γ (search quotes depth 40) (omega (arith, le-fact Γ h (search quotes depth 40), le-fact Γ k (search quotes depth 40)))
+    le-goal Γ (search quotes) (omega (arith, le-fact Γ h (search quotes), le-fact Γ k (search quotes)))
 
 pub ≼-antisym : {a b : ℤ} → a ≼ b → b ≼ a → a ≡ b
 ≼-antisym {a} {b} h k = let Γ = a ∷ b ∷ [] in
-    eq-goal Γ (search quotes depth 40) (omega (arith, le-fact Γ h (search quotes depth 40), le-fact Γ k (search quotes depth 40)))
+    eq-goal Γ (search quotes) (omega (arith, le-fact Γ h (search quotes), le-fact Γ k (search quotes)))
 
 pub ≼-≺-trans : {a b c : ℤ} → a ≼ b → b ≺ c → a ≺ c
 ≼-≺-trans {a} {b} {c} h k = let Γ = a ∷ b ∷ c ∷ [] in
-    lt-goal Γ (search quotes depth 40) (omega (arith, le-fact Γ h (search quotes depth 40), lt-fact Γ k (search quotes depth 40)))
+    lt-goal Γ (search quotes) (omega (arith, le-fact Γ h (search quotes), lt-fact Γ k (search quotes)))
 
 pub ≼-total : (a b : ℤ) → (a ≼ b) ⊎ (b ≺ a)
 ≼-total a b = go (ltZ b a) (λ t. ltZ-yes t) (λ t. ltZ-no t)
@@ -209,13 +209,13 @@ pub ≼-total : (a b : ℤ) → (a ≼ b) ⊎ (b ≺ a)
 
 -- a < b + 1 is a ≤ b
 pub ≼-of-≺-suc : {a b : ℤ} → a ≺ b +ℤ pos 1 → a ≼ b
-≼-of-≺-suc {a} {b} h = let Γ = a ∷ b ∷ [] in le-goal Γ (search quotes depth 40) (omega (arith, lt-fact Γ h (search quotes depth 40)))
+≼-of-≺-suc {a} {b} h = let Γ = a ∷ b ∷ [] in le-goal Γ (search quotes) (omega (arith, lt-fact Γ h (search quotes)))
 
 pub *-mono : {a b : ℤ} (c : ℕ) → a ≼ b → pos c *ℤ a ≼ pos c *ℤ b
 *-mono {a} {b} c h = go (gap h)
   where
     go : (k : ℕ) × (b ≡ a +ℤ pos k) → pos c *ℤ a ≼ pos c *ℤ b
-    go e = subst (λ (z : ℤ). pos c *ℤ a ≼ z) (ring (a ∷ pos c ∷ pos (e .0) ∷ []) (search quotes depth 40) tt ∙ ap (λ (z : ℤ). pos c *ℤ z) (sym (e .1))) (≼-plus (pos c *ℤ a) (c * e .0))
+    go e = subst (λ (z : ℤ). pos c *ℤ a ≼ z) (ring (a ∷ pos c ∷ pos (e .0) ∷ []) (search quotes) tt ∙ ap (λ (z : ℤ). pos c *ℤ z) (sym (e .1))) (≼-plus (pos c *ℤ a) (c * e .0))
 
 pub *-cancel-≺ : {a b : ℤ} (c : ℕ) → pos c *ℤ a ≺ pos c *ℤ b → a ≺ b
 *-cancel-≺ {a} {b} c h = ⊎-elim (λ k. clashℤ h (*-mono c k)) (λ k. k) (≼-total b a)

@@ -23,7 +23,7 @@ rounded-near h z x = rw half-of (go (floor-rest (x +ℤ pos h) (2 * h) (omega ar
   where
     off : (q : ℤ) (r : ℕ) → r < 2 * h → x +ℤ pos h ≡ pos (2 * h) *ℤ q +ℤ pos r → natAbs (pos (2 * h) *ℤ q -ℤ x) ≤ h
     off q r k e = let Γ = x ∷ q ∷ pos h ∷ pos r ∷ [] in
-        omega (arith, eq-fact Γ e (search quotes depth 40), abs-fact Γ (pos (2 * h) *ℤ q -ℤ x) (search quotes depth 40))
+        omega (arith, eq-fact Γ e (search quotes depth 40), abs-fact Γ (pos (2 * h) *ℤ q -ℤ x) (search quotes))
 
     go : Rest (x +ℤ pos h) (2 * h) → natAbs (pos (2 * h) *ℤ floor (x +ℤ pos h) (2 * h) -ℤ x) ≤ h
     go s = off (floor (x +ℤ pos h) (2 * h)) (s .rest) (s .small) (s .whole)
@@ -44,7 +44,7 @@ pub exact-of-near : (d : ℕ) (R : ℤ → ℤ) → zero < d → ((x : ℤ) → 
 exact-of-near d R k near y = sub-zero (R (y *ℤ pos d)) y (multiple-zero (R (y *ℤ pos d) -ℤ y) d k (rw out at (near (y *ℤ pos d))))
   where
     out : pos d *ℤ R (y *ℤ pos d) -ℤ y *ℤ pos d ≡ (R (y *ℤ pos d) -ℤ y) *ℤ pos d
-    out = ring (R (y *ℤ pos d) ∷ y ∷ pos d ∷ []) (search quotes depth 40) tt
+    out = ring (R (y *ℤ pos d) ∷ y ∷ pos d ∷ []) (search quotes) tt
 
 -- ---- as the machine has it: x in halves of the divisor, rounded down, and those in pairs, rounded up
 
@@ -80,13 +80,13 @@ half-up-small q = go (floor-rest q 2 (omega arith))
   where
     go : Rest q 2 → 2 * natAbs (q -ℤ floor q 2) ≤ natAbs q + 1
     go s = let Γ = q ∷ floor q 2 ∷ pos (s .rest) ∷ [] in
-        omega (arith, s .small, eq-fact Γ (s .whole) (search quotes depth 40), abs-fact Γ q (search quotes depth 40), abs-fact Γ (q -ℤ floor q 2) (search quotes depth 40))
+        omega (arith, s .small, eq-fact Γ (s .whole) (search quotes), abs-fact Γ q (search quotes), abs-fact Γ (q -ℤ floor q 2) (search quotes))
 
 -- ---- the divisors that no shift reaches: 1, and those above twice the size of x
 
 pub rounded-by-one : (x : ℤ) → rounded 1 x ≡ x
 unfolding rounded
-rounded-by-one x = ap (λ (y : ℤ). floor y 1) (ring (x ∷ []) (search quotes depth 40) tt) ∙ floor-exact 1 x 0 (omega arith)
+rounded-by-one x = ap (λ (y : ℤ). floor y 1) (ring (x ∷ []) (search quotes) tt) ∙ floor-exact 1 x 0 (omega arith)
 
 pub rounded-small : (h : ℕ) (x : ℤ) → mag x < h → rounded (2 * h) x ≡ pos 0
 unfolding rounded
@@ -96,7 +96,7 @@ rounded-small h x k = rw half-of (ap (λ (y : ℤ). floor y (2 * h)) (place x k 
     from r y e = e ∙ ring (pos h ∷ pos r ∷ []) (search quotes depth 40) tt
 
     cross : (a b r : ℕ) → r + a ≡ b → negℤ (pos a) +ℤ pos b ≡ pos r
-    cross a b r e = rw (sym e) (ring (pos a ∷ pos r ∷ []) (search quotes depth 40) tt)
+    cross a b r e = rw (sym e) (ring (pos a ∷ pos r ∷ []) (search quotes) tt)
 
     place : (x : ℤ) → mag x < h → (r : (r : ℕ) × (r < 2 * h)) × (x +ℤ pos h ≡ pos (2 * h) *ℤ pos 0 +ℤ pos (r .0))
     place (pos n) k = ((n + h, omega arith), from (n + h) (pos (n + h)) refl)

@@ -23,9 +23,5 @@ pub fn rounded(x: i64, digits: usize) -> i64
 pub fn magnitude(x: i64) -> u64
     ensures { λ r. ⌜ r ≡ natAbs x ⌝ }
 {
-    if x < 0 {
-        (-1 - x) as u64 + 1
-    } else {
-        x as u64
-    }
+    if x < 0 { (-1 - x) as u64 + 1 } else { x as u64 }
 }

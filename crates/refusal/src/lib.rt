@@ -83,6 +83,7 @@ impl BlockKind {
     pub const TURN: usize = 1024;
     // The scale of the quarter table, and its binary digits.
     pub const SCALE: usize = 32768;
+
     pub const SCALE_DIGITS: usize = 15;
 
     // The kind of a block of len cells, or refusal 1.

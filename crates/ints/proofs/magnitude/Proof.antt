@@ -29,7 +29,7 @@ negative (pos n) f l = absurd (omega (arith, ltb-true n 0 l))
 negative (negsuc n) f l = record { less = n; small = f .sfits; below = out (pos n) (pos (suc n)) (ap pos (sym (add-one n))); size = omega arith }
   where
     out : (z y : ℤ) → y ≡ z +ℤ pos 1 → negsuc 0 +ℤ y ≡ z
-    out z y e = rw e (ring (z ∷ []) (search quotes depth 40) tt)
+    out z y e = rw e (ring (z ∷ []) (search quotes) tt)
 
 back : (x : ℤ) (n : Negative x) → toZ w64 (ofZ w64 (negsuc 0 -ℤ x)) ≡ pos (n .less)
 back x n = ap (λ (z : ℤ). toZ w64 (ofZ w64 z)) (n .below) ∙ toZ-ofZ {w = w64} {z = pos (n .less)} (record { sfits = n .small })
