@@ -1,6 +1,6 @@
 pub mod Root
 pub mod Turn
-pub mod Fine
-pub mod Quarter
-pub mod Facts
-pub mod Near
+pub mod HalfAngle
+pub mod FineQuarter
+pub mod FineTurn
+pub mod TableNear

@@ -1,12 +1,12 @@
 -- The whole turn of a quarter F with F 256 = 0: its periods, its symmetries, and what a quarter turn more does.
 -- Example: `cosine-quarter F end j : cosine F (j + 256) ≡ negℤ (sine F j)`, with end : F 256 ≡ 0.
-use mathlib.Core.Path.{_≡_, refl, sym, _∙_, ap, ap₂, subst}
+use mathlib.Core.Path.{_≡_, refl, sym, _∙_, ap, subst}
 use mathlib.Core.Bool.{Bool, true, false, not}
 use Prim.Native.Nat.{ℕ, zero, suc, _+_, _*_, _-_, _/_, _%_, _≤_, _<_, min}
 use native.Mathlib.Nat.{add-mul-mod-self-right, mod-add-mod, mod-lt}
 use native.Mathlib.Omega.{arith}
 use lib.Dec.{T, leb, ltb, leb→le, nleb→lt, le→leb, ltb→lt, nltb→le}
-use lib.IntN.{ℤ, pos, negℤ, natAbs, negℤ-negℤ, _+ℤ_}
+use lib.IntN.{ℤ, pos, negℤ, negℤ-negℤ}
 use Rattle.ints.specs.Tabulate.{tabulate}
 use Rattle.ints.proofs.Tables.{getD-tabulate}
 use Rattle.cosine.specs.Cosine.{entries, halfTurn, away, cosine, sine}

@@ -1,5 +1,5 @@
 -- Document 01, Cosines. A step is a 1,024th of a turn; F stands for the cosines of a quarter, at 0 to 256 steps.
-use mathlib.Core.Bool.{Bool, true, false, cond}
+use mathlib.Core.Bool.{true, false, cond}
 use mathlib.Core.List.{List}
 use Prim.Native.Nat.{ℕ, zero, suc, _+_, _-_, _*_, _/_, _%_, _^_, min}
 use lib.Dec.{leb, eqb}
@@ -38,12 +38,16 @@ cas F j = cosine F j +ℤ sine F j
 
 -- ---- the fine cosines F(j), at scale 2^60
 
--- F(0) = 2^60, F(256) = 0, and for 0 < j < 256 the half-angle law: the whole square root of (2^60 + G) × 2^59, where G is the cosine
--- of 2j, that is F(2j) or minus F(512 - 2j). By recursion on d, the doublings that are left.
+-- the half-angle law: from G, the cosine of twice the angle, the whole square root, rounded down, of (2^60 + G) × 2^59
+abbrev pub halfAngle : ℤ → ℕ
+halfAngle G = root (natAbs ((pos (2 ^ 60) +ℤ G) *ℤ pos (2 ^ 59)))
+
+-- F(0) = 2^60, F(256) = 0, and for 0 < j < 256 the half-angle law, where G is F(2j) if 2j is at most 256, else minus F(512 - 2j).
+-- By recursion on d, the doublings of the angle that are left.
 unfoldable pub fineWith : ℕ → ℕ → ℕ
 unfolding root halfTurn
 fineWith zero j = cond (eqb j 0) (2 ^ 60) 0
-fineWith (suc d) j = cond (eqb j 0) (2 ^ 60) (cond (eqb j 256) 0 (root (natAbs ((pos (2 ^ 60) +ℤ halfTurn (fineWith d) (2 * j)) *ℤ pos (2 ^ 59)))))
+fineWith (suc d) j = cond (eqb j 0) (2 ^ 60) (cond (eqb j 256) 0 (halfAngle (halfTurn (fineWith d) (2 * j))))
 
 -- F(j): eight doublings lead from every j to 0 or 256
 unfoldable pub fine : ℕ → ℕ

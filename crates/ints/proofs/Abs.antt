@@ -2,7 +2,7 @@
 -- For `omega` a value |z| is what `abs-fact Γ z (search quotes)` says of it; Γ lists the atoms of z, as for `ring`.
 use mathlib.Core.Path.{_≡_, refl, sym, _∙_, ap}
 use mathlib.Core.List.{List, [], _∷_}
-use Prim.Native.Nat.{ℕ, zero, suc, _+_, _*_, _≤_, min}
+use Prim.Native.Nat.{ℕ, suc, _+_, _*_, _≤_, min}
 use native.Mathlib.Omega.{arith}
 use lib.IntN.{ℤ, pos, negsuc, negℤ, natAbs, _+ℤ_, _-ℤ_, _*ℤ_}
 use Rattle.ints.proofs.Ring.{Built, ring, quotes, normal}

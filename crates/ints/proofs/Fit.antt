@@ -1,6 +1,6 @@
 -- What fits a signed 64-bit number, by its absolute value.
 -- Example: `fits z h : SFits w64 z`, with h : natAbs z < 2 ^ 63; the machine's bits of such a z read back as z (`toZ-ofZ`).
-use Prim.Native.Nat.{ℕ, zero, suc, _+_, _≤_, _<_, _^_}
+use Prim.Native.Nat.{ℕ, _≤_, _<_, _^_}
 use native.Mathlib.Omega.{arith}
 use lib.IntN.{ℤ, pos, negsuc, natAbs}
 use lib.Signed.{mag, mag-shr, shrZ}

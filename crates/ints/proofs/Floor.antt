@@ -1,15 +1,16 @@
 -- Division that rounds down: z = m q + r with 0 ≤ r < m exactly where q is `floor z m`.
 -- Example: `floor-exact m q r h : floor (pos m *ℤ q +ℤ pos r) m ≡ q`, with h : r < m.
-use mathlib.Core.Path.{_≡_, refl, sym, _∙_, ap}
-use mathlib.Core.List.{List, [], _∷_}
-use Prim.Native.Nat.{ℕ, zero, suc, _+_, _*_, _/_, _%_, _<_}
+use mathlib.Core.Path.{_≡_, refl}
+use mathlib.Core.List.{[], _∷_}
+use Prim.Native.Nat.{ℕ, zero, suc, _+_, _*_, _/_, _≤_, _<_}
 use native.Mathlib.Omega.{arith}
 use native.Mathlib.Nat.{mod-lt, div-add-mod}
-use lib.IntN.{ℤ, pos, negsuc, negℤ, _+ℤ_, _*ℤ_}
+use lib.IntN.{ℤ, pos, negsuc, negℤ, natAbs, _+ℤ_, _-ℤ_, _*ℤ_}
 use lib.Signed.{shrZ}
 use Rattle.ints.specs.Quotient.{floor}
-use Rattle.ints.proofs.Ring.{ring, quotes}
+use Rattle.ints.proofs.Ring.{quotes}
 use Rattle.ints.proofs.Order.{_≼_, _≺_, gap, le-goal, lt-fact, lt-goal, eq-fact, ≼-plus, ≼-antisym, ≼-≺-trans, ≼-of-≺-suc, *-cancel-≺}
+use Rattle.ints.proofs.Abs.{abs-fact}
 
 -- the machine's shift to the right by k digits is the floor by 2 ^ k
 pub shift-is-floor : (z : ℤ) (m : ℕ) → shrZ z m ≡ floor z m
@@ -61,3 +62,15 @@ floor-rest z m h = go (gap (floor-le z m h))
         less : e .0 < m
         less = let Γ = z ∷ pos m ∷ floor z m ∷ pos (e .0) ∷ [] in
             omega (arith, lt-fact Γ (floor-lt z m h) (search quotes), eq-fact Γ (e .1) (search quotes))
+
+-- ---- half the divisor added first: to the nearest
+
+pub half-added-near : (h : ℕ) → zero < h → (x : ℤ) → natAbs (pos (2 * h) *ℤ floor (x +ℤ pos h) (2 * h) -ℤ x) ≤ h
+half-added-near h z x = go (floor-rest (x +ℤ pos h) (2 * h) (omega arith))
+  where
+    off : (q : ℤ) (r : ℕ) → r < 2 * h → x +ℤ pos h ≡ pos (2 * h) *ℤ q +ℤ pos r → natAbs (pos (2 * h) *ℤ q -ℤ x) ≤ h
+    off q r k e = let Γ = x ∷ q ∷ pos h ∷ pos r ∷ [] in
+        omega (arith, eq-fact Γ e (search quotes depth 40), abs-fact Γ (pos (2 * h) *ℤ q -ℤ x) (search quotes))
+
+    go : Rest (x +ℤ pos h) (2 * h) → natAbs (pos (2 * h) *ℤ floor (x +ℤ pos h) (2 * h) -ℤ x) ≤ h
+    go s = off (floor (x +ℤ pos h) (2 * h)) (s .rest) (s .small) (s .whole)

@@ -1,7 +1,7 @@
 -- The ring laws of ℤ that the library lacks: the product distributes over the sum, is associative, and carries a sign out.
 -- Example: `*ℤ-distl c m k : c *ℤ (m +ℤ k) ≡ c *ℤ m +ℤ c *ℤ k`. Where an equation needs several of them, `ring` (Ring.antt) finds them.
 use mathlib.Core.Path.{_≡_, refl, sym, _∙_, ap, ap₂}
-use Prim.Native.Nat.{ℕ, zero, suc}
+use Prim.Native.Nat.{zero, suc}
 use lib.IntN.{ℤ, pos, negsuc, sucℤ, predℤ, negℤ, _+ℤ_, _-ℤ_, _*ℤ_, +ℤ-idl, +ℤ-assoc, +ℤ-comm, sucℤ-+ℤ, predℤ-+ℤ, sucℤ-*ℤ, predℤ-*ℤ, zero-*ℤ, *ℤ-comm, negℤ-negℤ}
 
 -- from 0, one step up or down at a time

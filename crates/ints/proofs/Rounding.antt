@@ -1,8 +1,9 @@
 -- The rounded quotient. What later layers use of it is `rounded-near`, and of any rounding that is near, `exact-of-near`.
 -- Example: `rounded-near 16384 (lit< tt) x : natAbs (pos 32768 *ℤ rounded 32768 x -ℤ x) ≤ 16384`.
-use mathlib.Core.Path.{_≡_, refl, sym, _∙_, ap}
-use mathlib.Core.List.{List, [], _∷_}
+use mathlib.Core.Path.{_≡_, sym, _∙_, ap}
+use mathlib.Core.List.{[], _∷_}
 use Prim.Native.Nat.{ℕ, zero, suc, _+_, _-_, _*_, _/_, _≤_, _<_}
+use native.Mathlib.Nat.{div-eq-of-lt}
 use native.Mathlib.Omega.{arith}
 use lib.IntN.{ℤ, pos, negsuc, negℤ, natAbs, _+ℤ_, _-ℤ_, _*ℤ_}
 use lib.Signed.{mag}
@@ -10,7 +11,7 @@ use Rattle.ints.specs.Quotient.{floor, rounded}
 use Rattle.ints.proofs.Ring.{ring, quotes, sub-zero}
 use Rattle.ints.proofs.Order.{eq-fact}
 use Rattle.ints.proofs.Abs.{abs-fact, abs-times, abs-zero}
-use Rattle.ints.proofs.Floor.{Rest, floor-exact, floor-rest}
+use Rattle.ints.proofs.Floor.{Rest, floor-exact, floor-rest, half-added-near}
 
 half-of : (h : ℕ) → 2 * h / 2 ≡ h
 half-of h = omega arith
@@ -19,18 +20,11 @@ half-of h = omega arith
 
 pub rounded-near : (h : ℕ) → zero < h → (x : ℤ) → natAbs (pos (2 * h) *ℤ rounded (2 * h) x -ℤ x) ≤ h
 unfolding rounded
-rounded-near h z x = rw half-of (go (floor-rest (x +ℤ pos h) (2 * h) (omega arith)))
-  where
-    off : (q : ℤ) (r : ℕ) → r < 2 * h → x +ℤ pos h ≡ pos (2 * h) *ℤ q +ℤ pos r → natAbs (pos (2 * h) *ℤ q -ℤ x) ≤ h
-    off q r k e = let Γ = x ∷ q ∷ pos h ∷ pos r ∷ [] in
-        omega (arith, eq-fact Γ e (search quotes depth 40), abs-fact Γ (pos (2 * h) *ℤ q -ℤ x) (search quotes))
-
-    go : Rest (x +ℤ pos h) (2 * h) → natAbs (pos (2 * h) *ℤ floor (x +ℤ pos h) (2 * h) -ℤ x) ≤ h
-    go s = off (floor (x +ℤ pos h) (2 * h)) (s .rest) (s .small) (s .whole)
+rounded-near h z x = rw half-of (half-added-near h z x)
 
 -- ---- a rounding that is near is exact at the multiples
 
-multiple-zero : (z : ℤ) (d : ℕ) → zero < d → 2 * natAbs (z *ℤ pos d) ≤ d → z ≡ pos 0
+pub multiple-zero : (z : ℤ) (d : ℕ) → zero < d → 2 * natAbs (z *ℤ pos d) ≤ d → z ≡ pos 0
 multiple-zero z d k h = abs-zero z (go (natAbs z) (abs-times z (pos d)))
   where
     never : (a : ℕ) → natAbs (z *ℤ pos d) ≡ suc a * d → ⊥
@@ -89,15 +83,9 @@ unfolding rounded
 rounded-by-one x = ap (λ (y : ℤ). floor y 1) (ring (x ∷ []) (search quotes) tt) ∙ floor-exact 1 x 0 (omega arith)
 
 pub rounded-small : (h : ℕ) (x : ℤ) → mag x < h → rounded (2 * h) x ≡ pos 0
-unfolding rounded
-rounded-small h x k = rw half-of (ap (λ (y : ℤ). floor y (2 * h)) (place x k .1) ∙ floor-exact (2 * h) (pos 0) (place x k .0 .0) (place x k .0 .1))
+unfolding rounded floor
+rounded-small h (pos n) k = rw half-of (ap pos (div-eq-of-lt (omega arith)))
+rounded-small h (negsuc n) k = rw (half-of, cross (suc n) h (h - suc n) (omega arith)) (ap pos (div-eq-of-lt (omega arith)))
   where
-    from : (r : ℕ) (y : ℤ) → y ≡ pos r → y ≡ pos (2 * h) *ℤ pos 0 +ℤ pos r
-    from r y e = e ∙ ring (pos h ∷ pos r ∷ []) (search quotes depth 40) tt
-
     cross : (a b r : ℕ) → r + a ≡ b → negℤ (pos a) +ℤ pos b ≡ pos r
     cross a b r e = rw (sym e) (ring (pos a ∷ pos r ∷ []) (search quotes) tt)
-
-    place : (x : ℤ) → mag x < h → (r : (r : ℕ) × (r < 2 * h)) × (x +ℤ pos h ≡ pos (2 * h) *ℤ pos 0 +ℤ pos (r .0))
-    place (pos n) k = ((n + h, omega arith), from (n + h) (pos (n + h)) refl)
-    place (negsuc n) k = ((h - suc n, omega arith), from (h - suc n) (negsuc n +ℤ pos h) (cross (suc n) h (h - suc n) (omega arith)))

@@ -1,10 +1,10 @@
 -- Laws of finite sums: term by term, linear, split into even and odd places, and a bound.
 -- Example: `sum-abs n B f h : natAbs (sum n f) ≤ n * B`, with h : (i : ℕ) → i < n → natAbs (f i) ≤ B.
 use mathlib.Core.Path.{_≡_, refl, _∙_, ap, ap₂}
-use mathlib.Core.List.{List, [], _∷_}
+use mathlib.Core.List.{[], _∷_}
 use Prim.Native.Nat.{ℕ, zero, suc, _+_, _*_, _≤_, _<_}
 use native.Mathlib.Omega.{arith}
-use lib.IntN.{ℤ, pos, natAbs, _+ℤ_, _*ℤ_}
+use lib.IntN.{ℤ, natAbs, _+ℤ_, _*ℤ_}
 use Rattle.ints.specs.Sum.{sum}
 use Rattle.ints.proofs.Ring.{ring, quotes}
 use Rattle.ints.proofs.Abs.{abs-plus}

@@ -1,6 +1,6 @@
 -- A block's kind is given exactly for the lengths 2^P with P from 1 to 10.
 -- Example: `kind-length n P e .cells : n ≡ 2 ^ P`, with e : kindOf n ≡ Kind (record { p = P }).
-use mathlib.Core.Path.{_≡_, refl, sym, _∙_, ap, subst}
+use mathlib.Core.Path.{_≡_, refl, sym, _∙_, ap}
 use mathlib.Core.Bool.{Bool, true, false, cond}
 use Prim.Native.Nat.{ℕ, zero, suc, _^_, _≤_, _<_}
 use native.Mathlib.Omega.{arith}

@@ -1,7 +1,8 @@
 // Refusals with their numbers and places, the block's kind, and the two counts that must not be mixed up: moments and lines.
 ghost use mathlib.Core.Path.{_≡_};
+ghost use mathlib.Core.List.{[], _∷_};
 ghost use Rattle.refusal.specs.Refused.{number, place};
-ghost use Rattle.refusal.specs.Kind.{kindOf};
+ghost use Rattle.refusal.specs.Kind.{kindOf, LARGEST, SCALE, TURN};
 
 // A moment of a block, counted from 0 (document 01's t, the source's tau).
 pub struct Moment(pub usize);
@@ -85,6 +86,13 @@ impl BlockKind {
     pub const SCALE: usize = 32768;
 
     pub const SCALE_DIGITS: usize = 15;
+
+    // The largest length, the steps of a turn and the scale, as document 01 has them.
+    pub fn constants() -> [usize; 3]
+        ensures { λ r. ⌜ r ≡ LARGEST ∷ TURN ∷ SCALE ∷ [] ⌝ }
+    {
+        [BlockKind::LARGEST, BlockKind::TURN, BlockKind::SCALE]
+    }
 
     // The kind of a block of len cells, or refusal 1.
     pub fn of_len(len: usize) -> KindAnswer

@@ -14,6 +14,18 @@ fn print_signed(x: i64) {
     io::print_decimal(STDOUT_FILENO, ints::magnitude(x));
 }
 
+// The named constants of the block's kind.
+fn constants() {
+    let named = BlockKind::constants();
+    print(b"constants ");
+    io::print_decimal(STDOUT_FILENO, named[0] as u64);
+    print(b" ");
+    io::print_decimal(STDOUT_FILENO, named[1] as u64);
+    print(b" ");
+    io::print_decimal(STDOUT_FILENO, named[2] as u64);
+    print(b"\n");
+}
+
 // T at a step of the first quarter, by way of the whole turn's cosine.
 fn table_at(quarter: &[u32; 257], step: usize) {
     print(b"T ");
@@ -53,6 +65,7 @@ fn length_of(len: usize) {
 }
 
 fn main() {
+    constants();
     let quarter = cosine::quarter_table();
     table_at(&quarter, 0);
     table_at(&quarter, 64);

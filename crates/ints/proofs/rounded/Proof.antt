@@ -1,10 +1,10 @@
 -- `rounded` is right because x in halves of the divisor, less those in pairs, is the rounded quotient (`by-halves`).
 use borrow.Author.Needs.{needs}
-use mathlib.Core.Path.{_≡_, refl, sym, _∙_, ap, ap₂}
-use Prim.Native.Nat.{ℕ, zero, suc, _-_, _*_, _^_, _≤_, _<_}
+use mathlib.Core.Path.{_≡_, sym, _∙_, ap}
+use Prim.Native.Nat.{ℕ, suc, _-_, _*_, _^_, _<_}
 use native.Mathlib.Nat.{pow-suc, mul-comm}
 use native.Mathlib.Omega.{arith}
-use lib.IntN.{ℤ, pos, natAbs, _-ℤ_}
+use lib.IntN.{ℤ, _-ℤ_}
 use lib.Pow.{pow-pos, pow-mono}
 use lib.Signed.{shrZ}
 use mir.Facts.{toZ-ofZ}

@@ -1,7 +1,7 @@
 -- `of_len` is right because it meets the lengths 2^1, 2^2, .. in turn up to the largest, and stops at the one that is asked for.
 use mathlib.Core.Path.{_≡_, refl, sym, _∙_}
 use mathlib.Core.Bool.{Bool, true, false}
-use Prim.Native.Nat.{ℕ, suc, _+_, _-_, _*_, _^_, _≤_, _<_}
+use Prim.Native.Nat.{ℕ, _-_, _^_, _≤_, _<_}
 use native.Mathlib.Nat.{pow-suc, mul-comm}
 use native.Mathlib.Numerals.{add-one}
 use native.Mathlib.Omega.{arith}
@@ -10,7 +10,7 @@ use borrow.Author.Tests.{ltb-true, ltb-false}
 use lib.Dec.{ltb}
 use lib.Pow.{pow-mono}
 use Rattle.refusal.specs.Kind.{LARGEST}
-use Rattle.refusal.proofs.Lengths.{Kind-length, kind-given, kind-refused}
+use Rattle.refusal.proofs.Lengths.{kind-given, kind-refused}
 use Rattle.refusal.proofs.BlockKind.of_len.Statement.{statement}
 use Rattle.refusal.proofs.BlockKind.of_len.Tie as tie
 

@@ -1,7 +1,7 @@
 -- What demand 3 uses of the fine cosines c and sines s, for all steps of the turn: the sum law, its exact case, and their sizes.
 -- Example: `cas-sum j k : natAbs (cas fine (j + k) *ℤ pos (2 ^ 60) -ℤ (cas fine j *ℤ cosine fine k +ℤ opposite j *ℤ sine fine k)) ≤ 2 ^ 67`.
-use mathlib.Core.Path.{_≡_, refl, sym, _∙_, ap, ap₂}
-use mathlib.Core.List.{List, [], _∷_}
+use mathlib.Core.Path.{_≡_, sym, _∙_, ap, ap₂}
+use mathlib.Core.List.{[], _∷_}
 use Prim.Native.Nat.{ℕ, zero, suc, _+_, _*_, _-_, _^_, _≤_, _<_}
 use native.Mathlib.Nat.{zero-add, add-assoc, add-right-comm}
 use native.Mathlib.Omega.{arith}
@@ -10,8 +10,8 @@ use Rattle.ints.proofs.Ring.{ring, quotes}
 use Rattle.ints.proofs.Abs.{abs-plus, abs-neg}
 use Rattle.cosine.specs.Cosine.{cosine, sine, cas, fine}
 use Rattle.cosine.proofs.Turn.{cosine-first, sine-first, cosine-quarter, sine-quarter, by-quarters}
-use Rattle.cosine.proofs.Fine.{fine-top, fine-end}
-use Rattle.cosine.proofs.Quarter.{Sum-law, quarter-sum, quarter-size}
+use Rattle.cosine.proofs.HalfAngle.{fine-top, fine-end}
+use Rattle.cosine.proofs.FineQuarter.{Sum-law, quarter-sum, quarter-size}
 
 -- ---- the sum law. A quarter turn on makes (c, s) into (−s, c), which makes each of the two laws into the other.
 

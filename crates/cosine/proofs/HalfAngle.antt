@@ -1,20 +1,15 @@
 -- The fine cosines of a quarter: the half-angle law as document 01 has it, with F on both sides, and the two ends.
 -- Example: `fine-end : fine 256 ≡ 0`.
 use mathlib.Core.Path.{_≡_, refl, sym, _∙_, ap, subst}
-use mathlib.Core.Bool.{Bool, true, false, not, cond, true≢false}
+use mathlib.Core.Bool.{Bool, true, false, not}
 use Prim.Native.Nat.{ℕ, zero, suc, _+_, _*_, _-_, _^_, _≤_, _<_}
 use native.Mathlib.Nat.{pow-suc}
 use native.Mathlib.Omega.{arith}
 use borrow.Author.Tests.{ne-eqb, eqb-true, eqb-false}
 use lib.Dec.{T, leb, eqb, leb→le, nleb→lt}
-use lib.IntN.{ℤ, pos, negℤ, natAbs, _+ℤ_, _*ℤ_}
-use Rattle.cosine.specs.Root.{root}
-use Rattle.cosine.specs.Cosine.{halfTurn, fineWith, fine}
+use lib.IntN.{pos, negℤ}
+use Rattle.cosine.specs.Cosine.{halfTurn, halfAngle, fineWith, fine}
 use Rattle.cosine.proofs.Turn.{halfTurn-near, halfTurn-far}
-
--- the root that the half-angle law takes at j, from the cosines F
-abbrev pub halved : (ℕ → ℕ) → ℕ → ℕ
-halved F j = root (natAbs ((pos (2 ^ 60) +ℤ halfTurn F (2 * j)) *ℤ pos (2 ^ 59)))
 
 pub fine-top : fine 0 ≡ 2 ^ 60
 unfolding fine fineWith
@@ -69,19 +64,21 @@ unfolding fineWith
 at-end zero = refl
 at-end (suc d) = refl
 
-between : (d j : ℕ) → 0 < j → j < 256 → fineWith (suc d) j ≡ halved (fineWith d) j
+between : (d j : ℕ) → 0 < j → j < 256 → fineWith (suc d) j ≡ halfAngle (halfTurn (fineWith d) (2 * j))
 unfolding fineWith
 between d j a b = rw (ne-eqb j 0 (λ e. omega arith), ne-eqb j 256 (λ e. omega arith)) refl
 
 settled : (d j : ℕ) → j ≤ 256 → Leads d j → fineWith d j ≡ fineWith (suc d) j
-settled zero = ends-or-between (λ j. Leads 0 j → fineWith 0 j ≡ fineWith 1 j) (λ l. at-top 0 ∙ sym (at-top 1)) (λ l. at-end 0 ∙ sym (at-end 1)) (λ j a b l. absurd (never j a b l))
+settled zero = ends-or-between (λ j. Leads 0 j → fineWith 0 j ≡ fineWith 1 j)
+    (λ l. at-top 0 ∙ sym (at-top 1)) (λ l. at-end 0 ∙ sym (at-end 1)) (λ j a b l. absurd (never j a b l))
   where
     never : (j : ℕ) → 0 < j → j < 256 → Leads 0 j → ⊥
     never j a b l = omega (arith, l .1)
-settled (suc d) = ends-or-between (λ j. Leads (suc d) j → fineWith (suc d) j ≡ fineWith (suc (suc d)) j) (λ l. at-top (suc d) ∙ sym (at-top (suc (suc d)))) (λ l. at-end (suc d) ∙ sym (at-end (suc (suc d))))
-    (λ j a b l. between d j a b ∙ ap (λ (g : ℤ). root (natAbs ((pos (2 ^ 60) +ℤ g) *ℤ pos (2 ^ 59)))) (doubled (fineWith d) (fineWith (suc d)) d j (omega arith) l (settled d)) ∙ sym (between (suc d) j a b))
+settled (suc d) = ends-or-between (λ j. Leads (suc d) j → fineWith (suc d) j ≡ fineWith (suc (suc d)) j)
+    (λ l. at-top (suc d) ∙ sym (at-top (suc (suc d)))) (λ l. at-end (suc d) ∙ sym (at-end (suc (suc d))))
+    (λ j a b l. between d j a b ∙ ap halfAngle (doubled (fineWith d) (fineWith (suc d)) d j (omega arith) l (settled d)) ∙ sym (between (suc d) j a b))
 
 -- document 01's half-angle law
-pub half-angle : (j : ℕ) → 0 < j → j < 256 → fine j ≡ halved fine j
+pub half-angle : (j : ℕ) → 0 < j → j < 256 → fine j ≡ halfAngle (halfTurn fine (2 * j))
 unfolding fine
-half-angle j a b = between 7 j a b ∙ ap (λ (g : ℤ). root (natAbs ((pos (2 ^ 60) +ℤ g) *ℤ pos (2 ^ 59)))) (doubled (fineWith 7) (fineWith 8) 7 j (omega arith) (j, refl) (settled 7))
+half-angle j a b = between 7 j a b ∙ ap halfAngle (doubled (fineWith 7) (fineWith 8) 7 j (omega arith) (j, refl) (settled 7))

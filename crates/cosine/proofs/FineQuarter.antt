@@ -1,9 +1,9 @@
 -- What is found of the fine cosines by computing, once over the quarter: their sum law and their sizes.
 -- `quarter-sum j k hj hk` and `quarter-size j h` carry the one test to each step.
-use mathlib.Core.Path.{_≡_, refl, sym, _∙_, ap, fun-ext}
+use mathlib.Core.Path.{_≡_, sym, _∙_, ap, fun-ext}
 use mathlib.Core.Bool.{Bool, true, false, not, _&&_}
 use mathlib.Core.List.{List, [], _∷_}
-use Prim.Native.Nat.{ℕ, zero, suc, _+_, _*_, _-_, _^_, _≤_, _<_}
+use Prim.Native.Nat.{ℕ, _+_, _*_, _-_, _^_, _≤_, _<_}
 use native.Mathlib.Omega.{arith}
 use lib.Dec.{T, leb, ltb, leb→le, ltb→lt, nltb→le}
 use lib.Ieee.Fits.{and-l, and-r}
@@ -14,7 +14,7 @@ use Rattle.ints.proofs.Abs.{abs-fact}
 use Rattle.ints.proofs.Tables.{alongside, alongside-at, triangle, triangle-at}
 use Rattle.cosine.specs.Cosine.{entries, cosine, sine, fine}
 use Rattle.cosine.proofs.Turn.{cosine-first, sine-first, cosine-quarter, sine-quarter, listed, cosine-listed, sine-listed}
-use Rattle.cosine.proofs.Fine.{fine-end}
+use Rattle.cosine.proofs.HalfAngle.{fine-end}
 
 -- ---- the test, over a list q of a quarter's cosines
 

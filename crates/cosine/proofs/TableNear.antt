@@ -1,17 +1,21 @@
 -- The quarter table at every scale 2^s with s < 60: within half a unit of the fine cosines over the whole turn, and no larger than its scale.
 -- Example: `cosine-near 15 (lit< tt) j : natAbs (cosine (quarterTable 15) j *ℤ pos (2 ^ 60) -ℤ cosine fine j *ℤ pos (2 ^ 15)) ≤ 2 ^ 59`.
-use mathlib.Core.Path.{_≡_, refl, sym, _∙_, ap, ap₂}
-use mathlib.Core.List.{List, [], _∷_}
-use Prim.Native.Nat.{ℕ, zero, suc, _+_, _*_, _-_, _/_, _%_, _^_, _≤_, _<_}
-use native.Mathlib.Nat.{div-add-mod, mod-lt, mul-le-mul-left, mul-comm, pow-suc, div-lt-iff-lt-mul}
+use mathlib.Core.Path.{_≡_, refl, sym, _∙_, ap}
+use mathlib.Core.List.{[], _∷_}
+use Prim.Native.Nat.{ℕ, suc, _+_, _*_, _-_, _/_, _^_, _≤_, _<_}
+use native.Mathlib.Nat.{mul-le-mul-left, mul-comm, pow-suc, div-lt-iff-lt-mul}
 use native.Mathlib.Omega.{arith}
-use lib.IntN.{ℤ, pos, negℤ, natAbs, _+ℤ_, _-ℤ_, _*ℤ_}
+use lib.IntN.{ℤ, pos, negℤ, natAbs, _-ℤ_, _*ℤ_}
 use lib.Pow.{pow-pos, pow-add}
-use Rattle.ints.proofs.Ring.{ring, quotes}
-use Rattle.ints.proofs.Abs.{abs-fact, abs-neg, abs-times}
+use Rattle.ints.specs.Quotient.{floor}
+use Rattle.ints.proofs.Ring.{ring, quotes, sub-zero}
+use Rattle.ints.proofs.Abs.{abs-neg, abs-times}
+use Rattle.ints.proofs.Floor.{half-added-near}
+use Rattle.ints.proofs.Rounding.{multiple-zero}
 use Rattle.cosine.specs.Cosine.{cosine, sine, fine, quarterTable}
 use Rattle.cosine.proofs.Turn.{over-cosine, over-sine}
-use Rattle.cosine.proofs.Quarter.{quarter-size}
+use Rattle.cosine.proofs.FineQuarter.{quarter-size}
+use Rattle.cosine.proofs.FineTurn.{unit, cosine-quarters, sine-quarters}
 
 -- ---- f / 2h to the nearest, over plain numbers
 
@@ -19,18 +23,12 @@ module _ (h : ℕ) (z : 0 < h) (f : ℕ) where
   nearest : ℕ
   nearest = (f + h) / (2 * h)
 
-  off : natAbs (pos (2 * h * nearest) -ℤ pos f) ≤ h
-  unfolding nearest
-  off = go (2 * h * ((f + h) / (2 * h))) ((f + h) % (2 * h)) (div-add-mod (f + h) (2 * h)) (mod-lt (f + h) (omega arith))
-    where
-      go : (t r : ℕ) → t + r ≡ f + h → r < 2 * h → natAbs (pos t -ℤ pos f) ≤ h
-      go t r e k = let Γ = pos t ∷ pos f ∷ [] in omega (arith, abs-fact Γ (pos t -ℤ pos f) (search quotes))
-
   scaled : (q : ℕ) → natAbs (pos nearest *ℤ pos (2 * (h * q)) -ℤ pos f *ℤ pos q) ≤ h * q
-  scaled q = rw (out, abs-times (pos q) (pos (2 * h * nearest) -ℤ pos f)) (omega (arith, mul-le-mul-left q off))
+  unfolding nearest floor
+  scaled q = rw (out (pos ((f + h) / (2 * h))), abs-times) (omega (arith, mul-le-mul-left q (half-added-near h z (pos f))))
     where
-      out : pos nearest *ℤ pos (2 * (h * q)) -ℤ pos f *ℤ pos q ≡ pos q *ℤ (pos (2 * h * nearest) -ℤ pos f)
-      out = ring (pos f ∷ pos nearest ∷ pos q ∷ pos h ∷ []) (search quotes depth 40) tt
+      out : (t : ℤ) → t *ℤ pos (2 * (h * q)) -ℤ pos f *ℤ pos q ≡ pos q *ℤ (pos (2 * h) *ℤ t -ℤ pos f)
+      out t = ring (t ∷ pos f ∷ pos q ∷ pos h ∷ []) (search quotes depth 40) tt
 
   at-most : (q : ℕ) → f ≤ 2 * (h * q) → nearest ≤ q
   unfolding nearest
@@ -84,3 +82,17 @@ module _ (s : ℕ) (fits : s < 60) where
 
   pub sine-small : (j : ℕ) → natAbs (sine (quarterTable s) j) ≤ 2 ^ s
   sine-small = over-sine (quarterTable s) fine (λ t f. natAbs t ≤ 2 ^ s) (λ t f h. rw abs-neg h) entry-small
+
+  -- ---- at quarter turns the table is exact
+
+  table-exact : (t f p : ℤ) → f ≡ p *ℤ pos (2 ^ 60) → Near t f → t ≡ p *ℤ pos (2 ^ s)
+  table-exact t f p e h = sub-zero t (p *ℤ pos (2 ^ s)) (multiple-zero (t -ℤ p *ℤ pos (2 ^ s)) (2 ^ 60) (omega arith) (omega (arith, rw (e, out t p (pos (2 ^ 60)) (pos (2 ^ s))) at h)))
+    where
+      out : (t p u q : ℤ) → t *ℤ u -ℤ p *ℤ u *ℤ q ≡ (t -ℤ p *ℤ q) *ℤ u
+      out t p u q = ring (t ∷ p ∷ u ∷ q ∷ []) (search quotes depth 40) tt
+
+  pub cosine-exact : (m : ℕ) → cosine (quarterTable s) (m * 256) ≡ unit m .0 *ℤ pos (2 ^ s)
+  cosine-exact m = table-exact _ _ (unit m .0) (cosine-quarters m) (cosine-near (m * 256))
+
+  pub sine-exact : (m : ℕ) → sine (quarterTable s) (m * 256) ≡ unit m .1 *ℤ pos (2 ^ s)
+  sine-exact m = table-exact _ _ (unit m .1) (sine-quarters m) (sine-near (m * 256))
