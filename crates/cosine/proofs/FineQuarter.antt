@@ -79,7 +79,10 @@ pub record Sized (c s : ℕ) : Type 0 where
 
 of-sized : (c s : ℕ) → T (sized c s) → Sized c s
 unfolding sized
-of-sized c s t = record { alone = leb→le _ _ (and-l (leb c (2 ^ 60)) (leb (c + s) (92682 * 2 ^ 44)) t); together = leb→le _ _ (and-r (leb c (2 ^ 60)) (leb (c + s) (92682 * 2 ^ 44)) t) }
+of-sized c s t = record {
+  alone = leb→le _ _ (and-l (leb c (2 ^ 60)) (leb (c + s) (92682 * 2 ^ 44)) t);
+  together = leb→le _ _ (and-r (leb c (2 ^ 60)) (leb (c + s) (92682 * 2 ^ 44)) t);
+}
 
 pub quarter-size : (j : ℕ) → j ≤ 256 → Sized (fine j) (fine (256 - j))
 quarter-size j h = rw (cosines-are j h, cosines-are (256 - j) (omega arith)) at (of-sized _ _ (sized-at j h))
@@ -113,10 +116,12 @@ module _ (F : ℕ → ℕ) (end : F 256 ≡ 0) (i : ℕ) (h : i < 512) where
   abbrev parts : Bool → ℕ × ℕ × ℕ
   parts t = elim t [ true ↦ (F i, 0, F (256 - i)) | false ↦ (0, F (512 - i), F (i - 256)) ]
 
-  half-parts : (t : Bool) → (T t → i < 256) → (T (not t) → 256 ≤ i) → (cosine F i ≡ pos (parts t .0) -ℤ pos (parts t .1)) × (sine F i ≡ pos (parts t .2))
+  half-parts : (t : Bool) → (T t → i < 256) → (T (not t) → 256 ≤ i) →
+      (cosine F i ≡ pos (parts t .0) -ℤ pos (parts t .1)) × (sine F i ≡ pos (parts t .2))
   half-parts true f g = (cosine-first F i (omega (arith, f tt)) ∙ sym (+ℤ-idr (pos (F i))), sine-first F i (omega (arith, f tt)))
   half-parts false f g = (
-    ap (cosine F) (up (g tt)) ∙ cosine-quarter F end (i - 256) ∙ ap negℤ (sine-first F (i - 256) (omega arith) ∙ ap (λ (x : ℕ). pos (F x)) (down (g tt))) ∙ sym (+ℤ-idl (negℤ (pos (F (512 - i))))),
+    ap (cosine F) (up (g tt)) ∙ cosine-quarter F end (i - 256)
+        ∙ ap negℤ (sine-first F (i - 256) (omega arith) ∙ ap (λ (x : ℕ). pos (F x)) (down (g tt))) ∙ sym (+ℤ-idl (negℤ (pos (F (512 - i))))),
     ap (sine F) (up (g tt)) ∙ sine-quarter F end (i - 256) ∙ cosine-first F (i - 256) (omega arith),
   )
     where
@@ -126,13 +131,15 @@ module _ (F : ℕ → ℕ) (end : F 256 ≡ 0) (i : ℕ) (h : i < 512) where
       down : 256 ≤ i → 256 - (i - 256) ≡ 512 - i
       down k = omega arith
 
-half-turn-parts : (i : ℕ) → i < 512 → (cosine (entries cosines) i ≡ pos (triple cosines i .0) -ℤ pos (triple cosines i .1)) × (sine (entries cosines) i ≡ pos (triple cosines i .2))
+half-turn-parts : (i : ℕ) → i < 512 →
+    (cosine (entries cosines) i ≡ pos (triple cosines i .0) -ℤ pos (triple cosines i .1)) × (sine (entries cosines) i ≡ pos (triple cosines i .2))
 unfolding triple
 half-turn-parts i h = half-parts (entries cosines) (cosines-are 256 (omega arith) ∙ fine-end) i h (ltb i 256) (ltb→lt i 256) (nltb→le i 256)
 
 listed-sum : (j k : ℕ) → j < 256 → k < 256 → let c = cosine (entries cosines) in let s = sine (entries cosines) in Sum-law (c (j + k)) (s (j + k)) (c j) (s j) (c k) (s k)
 unfolding pair
-listed-sum j k hj hk = rw (half-turn-parts (j + k) (omega arith) .0, half-turn-parts (j + k) (omega arith) .1, cosine-first (entries cosines) j (omega arith), sine-first (entries cosines) j (omega arith), cosine-first (entries cosines) k (omega arith), sine-first (entries cosines) k (omega arith))
+listed-sum j k hj hk = let F = entries cosines in let sum = half-turn-parts (j + k) (omega arith) in
+    rw (sum .0, sum .1, cosine-first F j (omega arith), sine-first F j (omega arith), cosine-first F k (omega arith), sine-first F k (omega arith))
     (of-close (pair cosines j) (pair cosines k) (triple cosines (j + k)) (close-at j k hj hk))
 
 pub quarter-sum : (j k : ℕ) → j < 256 → k < 256 → Sum-law (cosine fine (j + k)) (sine fine (j + k)) (cosine fine j) (sine fine j) (cosine fine k) (sine fine k)

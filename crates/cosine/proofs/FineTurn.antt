@@ -48,6 +48,12 @@ module _ (x y a b p r : ℤ) (h : Sum-law x y a b p r) where
   cas-law = rw (of-cas x y a b p r (pos (2 ^ 60)))
       (omega (arith, abs-plus (x *ℤ pos (2 ^ 60) -ℤ (a *ℤ p -ℤ b *ℤ r)) (y *ℤ pos (2 ^ 60) -ℤ (b *ℤ p +ℤ a *ℤ r)), h .of-cosine, h .of-sine))
 
+cosine-on : (j : ℕ) → cosine fine (j + 256) ≡ negℤ (sine fine j)
+cosine-on = cosine-quarter fine fine-end
+
+sine-on : (j : ℕ) → sine fine (j + 256) ≡ cosine fine j
+sine-on = sine-quarter fine fine-end
+
 abbrev Holds : ℕ → ℕ → Type 0
 Holds j k = Sum-law (cosine fine (j + k)) (sine fine (j + k)) (cosine fine j) (sine fine j) (cosine fine k) (sine fine k)
 
@@ -55,10 +61,10 @@ pub sum-law : (j k : ℕ) → Holds j k
 sum-law j k = by-quarters (λ j. (k : ℕ) → Holds j k) (λ j hj. by-quarters (Holds j) (λ k hk. quarter-sum j k hj hk) (second j)) first j k
   where
     second : (j k : ℕ) → Holds j k → Holds j (k + 256)
-    second j k h = rw (sym (add-assoc j k 256), cosine-quarter fine fine-end (j + k), sine-quarter fine fine-end (j + k), cosine-quarter fine fine-end k, sine-quarter fine fine-end k) (second-on _ _ _ _ _ _ h)
+    second j k h = rw (sym (add-assoc j k 256), cosine-on (j + k), sine-on (j + k), cosine-on k, sine-on k) (second-on _ _ _ _ _ _ h)
 
     first : (j : ℕ) → ((k : ℕ) → Holds j k) → (k : ℕ) → Holds (j + 256) k
-    first j h k = rw (add-right-comm j 256 k, cosine-quarter fine fine-end (j + k), sine-quarter fine fine-end (j + k), cosine-quarter fine fine-end j, sine-quarter fine fine-end j) (first-on _ _ _ _ _ _ (h k))
+    first j h k = rw (add-right-comm j 256 k, cosine-on (j + k), sine-on (j + k), cosine-on j, sine-on j) (first-on _ _ _ _ _ _ (h k))
 
 -- cas of the opposite angle
 abbrev pub opposite : ℕ → ℤ
@@ -74,7 +80,9 @@ pub unit : ℕ → ℤ × ℤ
 unit zero = (pos 1, pos 0)
 unit (suc m) = (negℤ (unit m .1), unit m .0)
 
-on : (m j : ℕ) → (cosine fine (j + m * 256) ≡ cosine fine j *ℤ unit m .0 -ℤ sine fine j *ℤ unit m .1) × (sine fine (j + m * 256) ≡ sine fine j *ℤ unit m .0 +ℤ cosine fine j *ℤ unit m .1)
+on : (m j : ℕ) →
+    (cosine fine (j + m * 256) ≡ cosine fine j *ℤ unit m .0 -ℤ sine fine j *ℤ unit m .1)
+    × (sine fine (j + m * 256) ≡ sine fine j *ℤ unit m .0 +ℤ cosine fine j *ℤ unit m .1)
 unfolding unit
 on zero j = (
   ap (cosine fine) none ∙ ring (cosine fine j ∷ sine fine j ∷ []) (search quotes depth 40) tt,
@@ -84,8 +92,10 @@ on zero j = (
     none : j + 0 * 256 ≡ j
     none = omega arith
 on (suc m) j = (
-  ap (cosine fine) more ∙ cosine-quarter fine fine-end (j + m * 256) ∙ ap negℤ (on m j .1) ∙ ring (cosine fine j ∷ sine fine j ∷ unit m .0 ∷ unit m .1 ∷ []) (search quotes) tt,
-  ap (sine fine) more ∙ sine-quarter fine fine-end (j + m * 256) ∙ on m j .0 ∙ ring (cosine fine j ∷ sine fine j ∷ unit m .0 ∷ unit m .1 ∷ []) (search quotes) tt,
+  ap (cosine fine) more ∙ cosine-on (j + m * 256) ∙ ap negℤ (on m j .1)
+      ∙ ring (cosine fine j ∷ sine fine j ∷ unit m .0 ∷ unit m .1 ∷ []) (search quotes) tt,
+  ap (sine fine) more ∙ sine-on (j + m * 256) ∙ on m j .0
+      ∙ ring (cosine fine j ∷ sine fine j ∷ unit m .0 ∷ unit m .1 ∷ []) (search quotes) tt,
 )
   where
     more : j + suc m * 256 ≡ j + m * 256 + 256
@@ -124,5 +134,5 @@ small = by-quarters (λ j. Small (cosine fine j) (sine fine j)) first next
         (record { cosine-small = quarter-size i (omega arith) .alone; sine-small = quarter-size (256 - i) (omega arith) .alone; pair-small = quarter-size i (omega arith) .together })
 
     next : (j : ℕ) → Small (cosine fine j) (sine fine j) → Small (cosine fine (j + 256)) (sine fine (j + 256))
-    next j h = rw (cosine-quarter fine fine-end j, sine-quarter fine fine-end j)
+    next j h = rw (cosine-on j, sine-on j)
         (record { cosine-small = rw abs-neg (h .sine-small); sine-small = h .cosine-small; pair-small = rw abs-neg (omega (arith, h .pair-small)) })

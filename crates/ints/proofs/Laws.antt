@@ -20,8 +20,10 @@ pub +ℤ-left-comm : (a b c : ℤ) → a +ℤ (b +ℤ c) ≡ b +ℤ (a +ℤ c)
 pub *ℤ-distr : (m k c : ℤ) → (m +ℤ k) *ℤ c ≡ m *ℤ c +ℤ k *ℤ c
 *ℤ-distr m k c = by-steps (λ m. (m +ℤ k) *ℤ c ≡ m *ℤ c +ℤ k *ℤ c)
     (rw (+ℤ-idl k, zero-*ℤ c, +ℤ-idl (k *ℤ c)))
-    (λ m h. ap (λ (x : ℤ). x *ℤ c) (sucℤ-+ℤ m k) ∙ sucℤ-*ℤ (m +ℤ k) c ∙ ap (λ (x : ℤ). x +ℤ c) h ∙ +ℤ-right-comm (m *ℤ c) (k *ℤ c) c ∙ ap (λ (x : ℤ). x +ℤ k *ℤ c) (sym (sucℤ-*ℤ m c)))
-    (λ m h. ap (λ (x : ℤ). x *ℤ c) (predℤ-+ℤ m k) ∙ predℤ-*ℤ (m +ℤ k) c ∙ ap (λ (x : ℤ). x -ℤ c) h ∙ +ℤ-right-comm (m *ℤ c) (k *ℤ c) (negℤ c) ∙ ap (λ (x : ℤ). x +ℤ k *ℤ c) (sym (predℤ-*ℤ m c)))
+    (λ m h. ap (λ (x : ℤ). x *ℤ c) (sucℤ-+ℤ m k) ∙ sucℤ-*ℤ (m +ℤ k) c ∙ ap (λ (x : ℤ). x +ℤ c) h ∙ +ℤ-right-comm (m *ℤ c) (k *ℤ c) c
+    ∙ ap (λ (x : ℤ). x +ℤ k *ℤ c) (sym (sucℤ-*ℤ m c)))
+    (λ m h. ap (λ (x : ℤ). x *ℤ c) (predℤ-+ℤ m k) ∙ predℤ-*ℤ (m +ℤ k) c ∙ ap (λ (x : ℤ). x -ℤ c) h ∙ +ℤ-right-comm (m *ℤ c) (k *ℤ c) (negℤ c)
+    ∙ ap (λ (x : ℤ). x +ℤ k *ℤ c) (sym (predℤ-*ℤ m c)))
     m
 
 pub *ℤ-distl : (c m k : ℤ) → c *ℤ (m +ℤ k) ≡ c *ℤ m +ℤ c *ℤ k

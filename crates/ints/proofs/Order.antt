@@ -215,7 +215,8 @@ pub *-mono : {a b : ℤ} (c : ℕ) → a ≼ b → pos c *ℤ a ≼ pos c *ℤ b
 *-mono {a} {b} c h = go (gap h)
   where
     go : (k : ℕ) × (b ≡ a +ℤ pos k) → pos c *ℤ a ≼ pos c *ℤ b
-    go e = subst (λ (z : ℤ). pos c *ℤ a ≼ z) (ring (a ∷ pos c ∷ pos (e .0) ∷ []) (search quotes) tt ∙ ap (λ (z : ℤ). pos c *ℤ z) (sym (e .1))) (≼-plus (pos c *ℤ a) (c * e .0))
+    go e = subst (λ (z : ℤ). pos c *ℤ a ≼ z) (ring (a ∷ pos c ∷ pos (e .0) ∷ []) (search quotes) tt ∙ ap (λ (z : ℤ). pos c *ℤ z) (sym (e .1)))
+        (≼-plus (pos c *ℤ a) (c * e .0))
 
 pub *-cancel-≺ : {a b : ℤ} (c : ℕ) → pos c *ℤ a ≺ pos c *ℤ b → a ≺ b
 *-cancel-≺ {a} {b} c h = ⊎-elim (λ k. clashℤ h (*-mono c k)) (λ k. k) (≼-total b a)

@@ -98,7 +98,10 @@ before (i ∷ m) (j ∷ k) = elim (eqb i j) [ true ↦ before m k | false ↦ lt
 
 abbrev pub addTerm : ℤ → List ℕ → Poly → Poly
 addTerm c m none = term c m none
-addTerm c m (term d k p) = elim (same m k) [ true ↦ term (c +ℤ d) k p | false ↦ elim (before m k) [ true ↦ term c m (term d k p) | false ↦ term d k (addTerm c m p) ] ]
+addTerm c m (term d k p) = elim (same m k) [
+  | true ↦ term (c +ℤ d) k p
+  | false ↦ elim (before m k) [ true ↦ term c m (term d k p) | false ↦ term d k (addTerm c m p) ]
+]
 
 abbrev pub add : Poly → Poly → Poly
 add none q = q
@@ -174,7 +177,8 @@ module _ (Γ : List ℤ) where
   insert-ok i [] = refl
   insert-ok i (j ∷ m) = go (leb i j) (insert-ok i m)
     where
-      go : (b : Bool) → product Γ (insert i m) ≡ factor Γ i *ℤ product Γ m → product Γ (elim b [ true ↦ i ∷ (j ∷ m) | false ↦ j ∷ insert i m ]) ≡ factor Γ i *ℤ (factor Γ j *ℤ product Γ m)
+      go : (b : Bool) → product Γ (insert i m) ≡ factor Γ i *ℤ product Γ m →
+          product Γ (elim b [ true ↦ i ∷ (j ∷ m) | false ↦ j ∷ insert i m ]) ≡ factor Γ i *ℤ (factor Γ j *ℤ product Γ m)
       go true h = refl
       go false h = ap (λ (x : ℤ). factor Γ j *ℤ x) h ∙ *ℤ-left-comm (factor Γ j) (factor Γ i) (product Γ m)
 
@@ -187,8 +191,10 @@ module _ (Γ : List ℤ) where
   addTerm-ok c m (term d k p) = go (same m k) (same-ok m k) (before m k) (addTerm-ok c m p)
     where
       go : (b : Bool) → (T b → m ≡ k) → (l : Bool) → value Γ (addTerm c m p) ≡ c *ℤ product Γ m +ℤ value Γ p →
-          value Γ (elim b [ true ↦ term (c +ℤ d) k p | false ↦ elim l [ true ↦ term c m (term d k p) | false ↦ term d k (addTerm c m p) ] ]) ≡ c *ℤ product Γ m +ℤ (d *ℤ product Γ k +ℤ value Γ p)
-      go true f l h = ap (λ (x : ℤ). x +ℤ value Γ p) (*ℤ-distr c d (product Γ k) ∙ ap (λ (x : List ℕ). c *ℤ product Γ x +ℤ d *ℤ product Γ k) (sym (f tt))) ∙ +ℤ-assoc (c *ℤ product Γ m) (d *ℤ product Γ k) (value Γ p)
+          value Γ (elim b [ true ↦ term (c +ℤ d) k p | false ↦ elim l [ true ↦ term c m (term d k p) | false ↦ term d k (addTerm c m p) ] ])
+          ≡ c *ℤ product Γ m +ℤ (d *ℤ product Γ k +ℤ value Γ p)
+      go true f l h = ap (λ (x : ℤ). x +ℤ value Γ p) (*ℤ-distr c d (product Γ k) ∙ ap (λ (x : List ℕ). c *ℤ product Γ x +ℤ d *ℤ product Γ k) (sym (f tt)))
+          ∙ +ℤ-assoc (c *ℤ product Γ m) (d *ℤ product Γ k) (value Γ p)
       go false f true h = refl
       go false f false h = ap (λ (x : ℤ). d *ℤ product Γ k +ℤ x) h ∙ +ℤ-left-comm (d *ℤ product Γ k) (c *ℤ product Γ m) (value Γ p)
 
@@ -224,7 +230,8 @@ module _ (Γ : List ℤ) where
   constant z = +ℤ-idr (z *ℤ pos 1) ∙ *ℤ-one z
 
   pub normal-ok : {z : ℤ} (q : Built Γ z) → value Γ (normal q) ≡ z
-  normal-ok (atom p) = +ℤ-idr (pos 1 *ℤ (factor Γ (place p) *ℤ pos 1)) ∙ one-*ℤ (factor Γ (place p) *ℤ pos 1) ∙ *ℤ-comm (factor Γ (place p)) (pos 1) ∙ one-*ℤ (factor Γ (place p)) ∙ place-ok p
+  normal-ok (atom p) = +ℤ-idr (pos 1 *ℤ (factor Γ (place p) *ℤ pos 1)) ∙ one-*ℤ (factor Γ (place p) *ℤ pos 1)
+      ∙ *ℤ-comm (factor Γ (place p)) (pos 1) ∙ one-*ℤ (factor Γ (place p)) ∙ place-ok p
   normal-ok (lit n t) = constant (pos n)
   normal-ok (neglit n t) = constant (negsuc n)
   normal-ok (plus p q) = add-ok (normal p) (normal q) ∙ ap₂ _+ℤ_ (normal-ok p) (normal-ok q)
@@ -240,4 +247,5 @@ sub-zero x y h = sym (+ℤ-idr x) ∙ ap (λ (t : ℤ). x +ℤ t) (sym (+ℤ-inv
 
 pub ring : (Γ : List ℤ) {x y : ℤ} (e : Sides Γ x y) → T (agree e) → x ≡ y
 ring Γ (sides {x = x} {y = y} p q) t = sub-zero x y
-    (sym (ap₂ _+ℤ_ (normal-ok Γ p) (negate-ok Γ (normal q) ∙ ap negℤ (normal-ok Γ q))) ∙ sym (add-ok Γ (normal p) (negate (normal q))) ∙ vanishes-ok Γ (add (normal p) (negate (normal q))) t)
+    (sym (ap₂ _+ℤ_ (normal-ok Γ p) (negate-ok Γ (normal q) ∙ ap negℤ (normal-ok Γ q))) ∙ sym (add-ok Γ (normal p) (negate (normal q)))
+    ∙ vanishes-ok Γ (add (normal p) (negate (normal q))) t)

@@ -15,7 +15,10 @@ unfoldable pub rows : List Row
 unfolding floor rounded quarterTable
 rows =
     -- T at 0, 64, 128, 192, 256
-    record { given = map (λ j. pos (quarterTable SCALE-DIGITS j)) (0 ∷ 64 ∷ 128 ∷ 192 ∷ 256 ∷ []); said = pos 32768 ∷ pos 30274 ∷ pos 23170 ∷ pos 12540 ∷ pos 0 ∷ [] }
+    record {
+      given = map (λ j. pos (quarterTable SCALE-DIGITS j)) (0 ∷ 64 ∷ 128 ∷ 192 ∷ 256 ∷ []);
+      said = pos 32768 ∷ pos 30274 ∷ pos 23170 ∷ pos 12540 ∷ pos 0 ∷ [];
+    }
     -- the rounding of 8,192 × 23,170, and of minus that
     ∷ record { given = rounded SCALE (pos 8192 *ℤ pos 23170) ∷ []; said = pos 5793 ∷ [] }
     ∷ record { given = rounded SCALE (negℤ (pos 8192 *ℤ pos 23170)) ∷ []; said = negℤ (pos 5792) ∷ [] }
