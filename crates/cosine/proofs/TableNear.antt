@@ -7,10 +7,9 @@ use native.Mathlib.Nat.{mul-le-mul-left, mul-comm, pow-suc, div-lt-iff-lt-mul}
 use native.Mathlib.Omega.{arith}
 use lib.IntN.{ℤ, pos, negℤ, natAbs, _-ℤ_, _*ℤ_}
 use lib.Pow.{pow-pos, pow-add}
-use Rattle.ints.specs.Quotient.{floor}
 use Rattle.ints.proofs.Ring.{ring, quotes, sub-zero}
 use Rattle.ints.proofs.Abs.{abs-neg, abs-times}
-use Rattle.ints.proofs.Floor.{half-added-near}
+use Rattle.ints.proofs.Floor.{floor-pos, half-added-near}
 use Rattle.ints.proofs.Rounding.{multiple-zero}
 use Rattle.cosine.specs.Cosine.{cosine, sine, fine, quarterTable}
 use Rattle.cosine.proofs.Turn.{over-cosine, over-sine}
@@ -24,8 +23,8 @@ module _ (h : ℕ) (z : 0 < h) (f : ℕ) where
   nearest = (f + h) / (2 * h)
 
   scaled : (q : ℕ) → natAbs (pos nearest *ℤ pos (2 * (h * q)) -ℤ pos f *ℤ pos q) ≤ h * q
-  unfolding nearest floor
-  scaled q = rw (out (pos ((f + h) / (2 * h))), abs-times) (omega (arith, mul-le-mul-left q (half-added-near h z (pos f))))
+  unfolding nearest
+  scaled q = rw (out (pos ((f + h) / (2 * h))), abs-times) (omega (arith, mul-le-mul-left q (rw floor-pos at (half-added-near h z (pos f)))))
     where
       out : (t : ℤ) → t *ℤ pos (2 * (h * q)) -ℤ pos f *ℤ pos q ≡ pos q *ℤ (pos (2 * h) *ℤ t -ℤ pos f)
       out t = ring (t ∷ pos f ∷ pos q ∷ pos h ∷ []) (search quotes depth 40) tt

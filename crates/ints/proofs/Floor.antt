@@ -18,6 +18,10 @@ unfolding floor
 shift-is-floor (pos n) m = refl
 shift-is-floor (negsuc n) m = refl
 
+pub floor-pos : (n m : ℕ) → floor (pos n) m ≡ pos (n / m)
+unfolding floor
+floor-pos n m = refl
+
 -- ---- m q ≤ z < m (q + 1)
 
 pub floor-le : (z : ℤ) (m : ℕ) → zero < m → pos m *ℤ floor z m ≼ z
