@@ -2,7 +2,7 @@
 ghost use mathlib.Core.Path.{_≡_};
 ghost use mathlib.Core.List.{[], _∷_};
 ghost use Rattle.refusal.specs.Refused.{number, place};
-ghost use Rattle.refusal.specs.Kind.{kindOf, LARGEST, SCALE, TURN};
+ghost use Rattle.refusal.specs.Kind.{kindOf, LARGEST, SCALE, SCALE-DIGITS, TURN};
 
 // A moment of a block, counted from 0 (document 01's t, the source's tau).
 pub struct Moment(pub usize);
@@ -82,16 +82,21 @@ impl BlockKind {
     pub const LARGEST: usize = 1024;
     // The steps of a turn.
     pub const TURN: usize = 1024;
-    // The scale of the quarter table, and its binary digits.
+    // The scale of the quarter table.
     pub const SCALE: usize = 32768;
-
+    // The binary digits of the scale: it is 2^15.
     pub const SCALE_DIGITS: usize = 15;
 
-    // The largest length, the steps of a turn and the scale, as document 01 has them.
-    pub fn constants() -> [usize; 3]
-        ensures { λ r. ⌜ r ≡ LARGEST ∷ TURN ∷ SCALE ∷ [] ⌝ }
+    // The four constants, which are document 01's.
+    pub fn constants() -> [usize; 4]
+        ensures { λ r. ⌜ r ≡ LARGEST ∷ TURN ∷ SCALE ∷ SCALE-DIGITS ∷ [] ⌝ }
     {
-        [BlockKind::LARGEST, BlockKind::TURN, BlockKind::SCALE]
+        [
+            BlockKind::LARGEST,
+            BlockKind::TURN,
+            BlockKind::SCALE,
+            BlockKind::SCALE_DIGITS,
+        ]
     }
 
     // The kind of a block of len cells, or refusal 1.

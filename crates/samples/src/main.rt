@@ -23,6 +23,8 @@ fn constants() {
     io::print_decimal(STDOUT_FILENO, named[1] as u64);
     print(b" ");
     io::print_decimal(STDOUT_FILENO, named[2] as u64);
+    print(b" ");
+    io::print_decimal(STDOUT_FILENO, named[3] as u64);
     print(b"\n");
 }
 
