@@ -18,10 +18,11 @@ use Rattle.cosine.proofs.HalfAngle.{fine-end}
 
 -- ---- the test, over a list q of a quarter's cosines
 
--- cosine and sine at j steps, 0 to 255; and at 0 to 511, where the cosine is the difference of the first two
+-- cosine and sine at j steps, 0 to 255
 pair : List ℕ → ℕ → ℕ × ℕ
 pair q j = (entries q j, entries q (256 - j))
 
+-- at i steps, 0 to 511: two numbers whose difference is the cosine, and the sine
 triple : List ℕ → ℕ → ℕ × ℕ × ℕ
 triple q i = elim (ltb i 256) [ true ↦ (entries q i, 0, entries q (256 - i)) | false ↦ (0, entries q (512 - i), entries q (i - 256)) ]
 

@@ -7,9 +7,10 @@ use native.Mathlib.Nat.{zero-add, add-assoc, add-right-comm}
 use native.Mathlib.Omega.{arith}
 use lib.IntN.{ℤ, pos, negℤ, natAbs, _+ℤ_, _-ℤ_, _*ℤ_}
 use Rattle.ints.proofs.Ring.{ring, quotes}
-use Rattle.ints.proofs.Abs.{abs-plus, abs-neg}
-use Rattle.cosine.specs.Cosine.{cosine, sine, cas, fine}
-use Rattle.cosine.proofs.Turn.{cosine-first, sine-first, cosine-quarter, sine-quarter, by-quarters}
+use Rattle.ints.proofs.Order.{_≼_, le-goal}
+use Rattle.ints.proofs.Abs.{abs-fact, abs-plus, abs-neg}
+use Rattle.cosine.specs.Cosine.{halfTurn, cosine, sine, cas, fine}
+use Rattle.cosine.proofs.Turn.{cosine-half-turn, cosine-first, sine-first, cosine-quarter, sine-quarter, by-quarters}
 use Rattle.cosine.proofs.HalfAngle.{fine-top, fine-end}
 use Rattle.cosine.proofs.FineQuarter.{Sum-law, quarter-sum, quarter-size}
 
@@ -76,14 +77,14 @@ cas-sum j k = cas-law _ _ _ _ _ _ (sum-law j k)
 
 -- ---- its exact case: m quarter turns on, with their cosine and sine as −1, 0 or 1
 
-pub unit : ℕ → ℤ × ℤ
-unit zero = (pos 1, pos 0)
-unit (suc m) = (negℤ (unit m .1), unit m .0)
+unfoldable pub quarterUnit : ℕ → ℤ × ℤ
+quarterUnit zero = (pos 1, pos 0)
+quarterUnit (suc m) = (negℤ (quarterUnit m .1), quarterUnit m .0)
 
 on : (m j : ℕ) →
-    (cosine fine (j + m * 256) ≡ cosine fine j *ℤ unit m .0 -ℤ sine fine j *ℤ unit m .1)
-    × (sine fine (j + m * 256) ≡ sine fine j *ℤ unit m .0 +ℤ cosine fine j *ℤ unit m .1)
-unfolding unit
+    (cosine fine (j + m * 256) ≡ cosine fine j *ℤ quarterUnit m .0 -ℤ sine fine j *ℤ quarterUnit m .1)
+    × (sine fine (j + m * 256) ≡ sine fine j *ℤ quarterUnit m .0 +ℤ cosine fine j *ℤ quarterUnit m .1)
+unfolding quarterUnit
 on zero j = (
   ap (cosine fine) none ∙ ring (cosine fine j ∷ sine fine j ∷ []) (search quotes depth 40) tt,
   ap (sine fine) none ∙ ring (cosine fine j ∷ sine fine j ∷ []) (search quotes) tt,
@@ -93,9 +94,9 @@ on zero j = (
     none = omega arith
 on (suc m) j = (
   ap (cosine fine) more ∙ cosine-on (j + m * 256) ∙ ap negℤ (on m j .1)
-      ∙ ring (cosine fine j ∷ sine fine j ∷ unit m .0 ∷ unit m .1 ∷ []) (search quotes) tt,
+      ∙ ring (cosine fine j ∷ sine fine j ∷ quarterUnit m .0 ∷ quarterUnit m .1 ∷ []) (search quotes) tt,
   ap (sine fine) more ∙ sine-on (j + m * 256) ∙ on m j .0
-      ∙ ring (cosine fine j ∷ sine fine j ∷ unit m .0 ∷ unit m .1 ∷ []) (search quotes) tt,
+      ∙ ring (cosine fine j ∷ sine fine j ∷ quarterUnit m .0 ∷ quarterUnit m .1 ∷ []) (search quotes) tt,
 )
   where
     more : j + suc m * 256 ≡ j + m * 256 + 256
@@ -107,32 +108,42 @@ cosine-zero = cosine-first fine 0 (omega arith) ∙ ap pos fine-top
 pub sine-zero : sine fine 0 ≡ pos 0
 sine-zero = sine-first fine 0 (omega arith) ∙ ap pos fine-end
 
-pub cosine-quarters : (m : ℕ) → cosine fine (m * 256) ≡ unit m .0 *ℤ pos (2 ^ 60)
-cosine-quarters m = ap (cosine fine) (sym (zero-add (m * 256))) ∙ on m 0 .0 ∙ ap₂ (λ (c s : ℤ). c *ℤ unit m .0 -ℤ s *ℤ unit m .1) cosine-zero sine-zero
-    ∙ ring (unit m .0 ∷ unit m .1 ∷ []) (search quotes depth 40) tt
+pub cosine-quarters : (m : ℕ) → cosine fine (m * 256) ≡ quarterUnit m .0 *ℤ pos (2 ^ 60)
+cosine-quarters m = ap (cosine fine) (sym (zero-add (m * 256))) ∙ on m 0 .0 ∙ ap₂ (λ (c s : ℤ). c *ℤ quarterUnit m .0 -ℤ s *ℤ quarterUnit m .1) cosine-zero sine-zero
+    ∙ ring (quarterUnit m .0 ∷ quarterUnit m .1 ∷ []) (search quotes depth 40) tt
 
-pub sine-quarters : (m : ℕ) → sine fine (m * 256) ≡ unit m .1 *ℤ pos (2 ^ 60)
-sine-quarters m = ap (sine fine) (sym (zero-add (m * 256))) ∙ on m 0 .1 ∙ ap₂ (λ (c s : ℤ). s *ℤ unit m .0 +ℤ c *ℤ unit m .1) cosine-zero sine-zero
-    ∙ ring (unit m .0 ∷ unit m .1 ∷ []) (search quotes) tt
+pub sine-quarters : (m : ℕ) → sine fine (m * 256) ≡ quarterUnit m .1 *ℤ pos (2 ^ 60)
+sine-quarters m = ap (sine fine) (sym (zero-add (m * 256))) ∙ on m 0 .1 ∙ ap₂ (λ (c s : ℤ). s *ℤ quarterUnit m .0 +ℤ c *ℤ quarterUnit m .1) cosine-zero sine-zero
+    ∙ ring (quarterUnit m .0 ∷ quarterUnit m .1 ∷ []) (search quotes) tt
 
-pub cas-quarters : (m j : ℕ) → cas fine (j + m * 256) ≡ cas fine j *ℤ unit m .0 +ℤ opposite j *ℤ unit m .1
+pub cas-quarters : (m j : ℕ) → cas fine (j + m * 256) ≡ cas fine j *ℤ quarterUnit m .0 +ℤ opposite j *ℤ quarterUnit m .1
 unfolding cas
-cas-quarters m j = ap₂ _+ℤ_ (on m j .0) (on m j .1) ∙ ring (cosine fine j ∷ sine fine j ∷ unit m .0 ∷ unit m .1 ∷ []) (search quotes depth 40) tt
+cas-quarters m j = ap₂ _+ℤ_ (on m j .0) (on m j .1) ∙ ring (cosine fine j ∷ sine fine j ∷ quarterUnit m .0 ∷ quarterUnit m .1 ∷ []) (search quotes depth 40) tt
 
 -- ---- the sizes
 
-pub record Small (c s : ℤ) : Type 0 where
-  pub cosine-small : natAbs c ≤ 2 ^ 60
-  pub sine-small : natAbs s ≤ 2 ^ 60
-  pub pair-small : natAbs c + natAbs s ≤ 92682 * 2 ^ 44
+pub record Fine-size (c s : ℤ) : Type 0 where
+  pub cosine-size : natAbs c ≤ 2 ^ 60
+  pub sine-size : natAbs s ≤ 2 ^ 60
+  pub pair-size : natAbs c + natAbs s ≤ 92682 * 2 ^ 44
 
-pub small : (j : ℕ) → Small (cosine fine j) (sine fine j)
-small = by-quarters (λ j. Small (cosine fine j) (sine fine j)) first next
+pub fine-size : (j : ℕ) → Fine-size (cosine fine j) (sine fine j)
+fine-size = by-quarters (λ j. Fine-size (cosine fine j) (sine fine j)) first next
   where
-    first : (i : ℕ) → i < 256 → Small (cosine fine i) (sine fine i)
-    first i h = rw (cosine-first fine i (omega arith), sine-first fine i (omega arith))
-        (record { cosine-small = quarter-size i (omega arith) .alone; sine-small = quarter-size (256 - i) (omega arith) .alone; pair-small = quarter-size i (omega arith) .together })
+    first : (i : ℕ) → i < 256 → Fine-size (cosine fine i) (sine fine i)
+    first i h = rw (cosine-first fine i (omega arith), sine-first fine i (omega arith)) (record {
+      cosine-size = quarter-size i (omega arith) .alone;
+      sine-size = quarter-size (256 - i) (omega arith) .alone;
+      pair-size = quarter-size i (omega arith) .together;
+    })
 
-    next : (j : ℕ) → Small (cosine fine j) (sine fine j) → Small (cosine fine (j + 256)) (sine fine (j + 256))
+    next : (j : ℕ) → Fine-size (cosine fine j) (sine fine j) → Fine-size (cosine fine (j + 256)) (sine fine (j + 256))
     next j h = rw (cosine-on j, sine-on j)
-        (record { cosine-small = rw abs-neg (h .sine-small); sine-small = h .cosine-small; pair-small = rw abs-neg (omega (arith, h .pair-small)) })
+        (record { cosine-size = rw abs-neg (h .sine-size); sine-size = h .cosine-size; pair-size = rw abs-neg (omega (arith, h .pair-size)) })
+
+-- 2^60 + G of the half-angle law is never negative
+pub no-less : (j : ℕ) → j ≤ 256 → pos 0 ≼ pos (2 ^ 60) +ℤ halfTurn fine (2 * j)
+no-less j h = rw (sym (cosine-half-turn fine (2 * j) (omega arith))) (go (cosine fine (2 * j)) (fine-size (2 * j) .cosine-size))
+  where
+    go : (z : ℤ) → natAbs z ≤ 2 ^ 60 → pos 0 ≼ pos (2 ^ 60) +ℤ z
+    go z k = let Γ = z ∷ [] in le-goal Γ (search quotes) (omega (arith, abs-fact Γ z (search quotes)))

@@ -54,31 +54,37 @@ ends-or-between P first last inner j h = go (eqb j 0) refl (eqb j 256) refl
     go false e true f = subst P (sym (eqb-true j 256 f)) last
     go false e false f = inner j (omega (arith, eqb-false j 0 e)) (omega (arith, eqb-false j 256 f))
 
-at-top : (d : ℕ) → fineWith d 0 ≡ 2 ^ 60
-unfolding fineWith
-at-top zero = refl
-at-top (suc d) = refl
+module _ (b : ℕ) where
+  at-top : (d : ℕ) → fineWith b d 0 ≡ 2 ^ b
+  unfolding fineWith
+  at-top zero = refl
+  at-top (suc d) = refl
 
-at-end : (d : ℕ) → fineWith d 256 ≡ 0
-unfolding fineWith
-at-end zero = refl
-at-end (suc d) = refl
+  at-end : (d : ℕ) → fineWith b d 256 ≡ 0
+  unfolding fineWith
+  at-end zero = refl
+  at-end (suc d) = refl
 
-between : (d j : ℕ) → 0 < j → j < 256 → fineWith (suc d) j ≡ halfAngle (halfTurn (fineWith d) (2 * j))
-unfolding fineWith
-between d j a b = rw (ne-eqb j 0 (λ e. omega arith), ne-eqb j 256 (λ e. omega arith)) refl
+  between : (d j : ℕ) → 0 < j → j < 256 → fineWith b (suc d) j ≡ halfAngle b (halfTurn (fineWith b d) (2 * j))
+  unfolding fineWith
+  between d j low high = rw (ne-eqb j 0 (λ e. omega arith), ne-eqb j 256 (λ e. omega arith)) refl
 
-settled : (d j : ℕ) → j ≤ 256 → Leads d j → fineWith d j ≡ fineWith (suc d) j
-settled zero = ends-or-between (λ j. Leads 0 j → fineWith 0 j ≡ fineWith 1 j)
-    (λ l. at-top 0 ∙ sym (at-top 1)) (λ l. at-end 0 ∙ sym (at-end 1)) (λ j a b l. absurd (never j a b l))
-  where
-    never : (j : ℕ) → 0 < j → j < 256 → Leads 0 j → ⊥
-    never j a b l = omega (arith, l .1)
-settled (suc d) = ends-or-between (λ j. Leads (suc d) j → fineWith (suc d) j ≡ fineWith (suc (suc d)) j)
-    (λ l. at-top (suc d) ∙ sym (at-top (suc (suc d)))) (λ l. at-end (suc d) ∙ sym (at-end (suc (suc d))))
-    (λ j a b l. between d j a b ∙ ap halfAngle (doubled (fineWith d) (fineWith (suc d)) d j (omega arith) l (settled d)) ∙ sym (between (suc d) j a b))
+  settled : (d j : ℕ) → j ≤ 256 → Leads d j → fineWith b d j ≡ fineWith b (suc d) j
+  settled zero = ends-or-between (λ j. Leads 0 j → fineWith b 0 j ≡ fineWith b 1 j)
+      (λ l. at-top 0 ∙ sym (at-top 1)) (λ l. at-end 0 ∙ sym (at-end 1)) (λ j low high l. absurd (never j low high l))
+    where
+      never : (j : ℕ) → 0 < j → j < 256 → Leads 0 j → ⊥
+      never j low high l = omega (arith, l .1)
+  settled (suc d) = ends-or-between (λ j. Leads (suc d) j → fineWith b (suc d) j ≡ fineWith b (suc (suc d)) j)
+      (λ l. at-top (suc d) ∙ sym (at-top (suc (suc d)))) (λ l. at-end (suc d) ∙ sym (at-end (suc (suc d))))
+      (λ j low high l. between d j low high
+      ∙ ap (halfAngle b) (doubled (fineWith b d) (fineWith b (suc d)) d j (omega arith) l (settled d)) ∙ sym (between (suc d) j low high))
 
--- document 01's half-angle law
-pub half-angle : (j : ℕ) → 0 < j → j < 256 → fine j ≡ halfAngle (halfTurn fine (2 * j))
+  -- the half-angle law with F itself on both sides, at every scale
+  pub half-angle-at : (j : ℕ) → 0 < j → j < 256 → fineWith b 8 j ≡ halfAngle b (halfTurn (fineWith b 8) (2 * j))
+  half-angle-at j low high = between 7 j low high ∙ ap (halfAngle b) (doubled (fineWith b 7) (fineWith b 8) 7 j (omega arith) (j, refl) (settled 7))
+
+-- document 01's
+pub half-angle : (j : ℕ) → 0 < j → j < 256 → fine j ≡ halfAngle 60 (halfTurn fine (2 * j))
 unfolding fine
-half-angle j a b = between 7 j a b ∙ ap halfAngle (doubled (fineWith 7) (fineWith 8) 7 j (omega arith) (j, refl) (settled 7))
+half-angle = half-angle-at 60

@@ -1,20 +1,21 @@
--- The quarter table at every scale 2^s with s < 60: within half a unit of the fine cosines over the whole turn, and no larger than its scale.
+-- The quarter table at every scale 2^s with s < 60: within half a quarterUnit of the fine cosines over the whole turn, and no larger than its scale.
 -- Example: `cosine-near 15 (lit< tt) j : natAbs (cosine (quarterTable 15) j *ℤ pos (2 ^ 60) -ℤ cosine fine j *ℤ pos (2 ^ 15)) ≤ 2 ^ 59`.
 use mathlib.Core.Path.{_≡_, refl, sym, _∙_, ap}
 use mathlib.Core.List.{[], _∷_}
 use Prim.Native.Nat.{ℕ, suc, _+_, _*_, _-_, _/_, _^_, _≤_, _<_}
-use native.Mathlib.Nat.{mul-le-mul-left, mul-comm, pow-suc, div-lt-iff-lt-mul}
+use native.Mathlib.Nat.{mul-le-mul-left, div-lt-iff-lt-mul}
 use native.Mathlib.Omega.{arith}
 use lib.IntN.{ℤ, pos, negℤ, natAbs, _-ℤ_, _*ℤ_}
 use lib.Pow.{pow-pos, pow-add}
 use Rattle.ints.proofs.Ring.{ring, quotes, sub-zero}
 use Rattle.ints.proofs.Abs.{abs-neg, abs-times}
+use Rattle.ints.proofs.Powers.{two-pow}
 use Rattle.ints.proofs.Floor.{floor-pos, half-added-near}
 use Rattle.ints.proofs.Rounding.{multiple-zero}
 use Rattle.cosine.specs.Cosine.{cosine, sine, fine, quarterTable}
 use Rattle.cosine.proofs.Turn.{over-cosine, over-sine}
 use Rattle.cosine.proofs.FineQuarter.{quarter-size}
-use Rattle.cosine.proofs.FineTurn.{unit, cosine-quarters, sine-quarters}
+use Rattle.cosine.proofs.FineTurn.{quarterUnit, cosine-quarters, sine-quarters}
 
 -- ---- f / 2h to the nearest, over plain numbers
 
@@ -40,7 +41,7 @@ module _ (h : ℕ) (z : 0 < h) (f : ℕ) where
 
 module _ (s : ℕ) (fits : s < 60) where
   half : 2 ^ (60 - s) ≡ 2 * 2 ^ (59 - s)
-  half = ap (λ (k : ℕ). 2 ^ k) up ∙ pow-suc 2 (59 - s) ∙ mul-comm (2 ^ (59 - s)) 2
+  half = ap (λ (k : ℕ). 2 ^ k) up ∙ two-pow (59 - s)
     where
       up : 60 - s ≡ suc (59 - s)
       up = omega arith
@@ -54,6 +55,8 @@ module _ (s : ℕ) (fits : s < 60) where
   table-is : (j : ℕ) → quarterTable s j ≡ nearest (2 ^ (59 - s)) (pow-pos (59 - s)) (fine j)
   unfolding quarterTable nearest
   table-is j = rw half refl
+
+  -- ---- near the fine cosines
 
   abbrev Near : ℤ → ℤ → Type 0
   Near t f = natAbs (t *ℤ pos (2 ^ 60) -ℤ f *ℤ pos (2 ^ s)) ≤ 2 ^ 59
@@ -73,14 +76,16 @@ module _ (s : ℕ) (fits : s < 60) where
   pub sine-near : (j : ℕ) → natAbs (sine (quarterTable s) j *ℤ pos (2 ^ 60) -ℤ sine fine j *ℤ pos (2 ^ s)) ≤ 2 ^ 59
   sine-near = over-sine (quarterTable s) fine Near turned entry-near
 
-  pub entry-small : (j : ℕ) → j ≤ 256 → quarterTable s j ≤ 2 ^ s
-  entry-small j h = rw table-is (at-most (2 ^ (59 - s)) (pow-pos (59 - s)) (fine j) (2 ^ s) (rw scale (quarter-size j h .alone)))
+  -- ---- no larger than the scale
 
-  pub cosine-small : (j : ℕ) → natAbs (cosine (quarterTable s) j) ≤ 2 ^ s
-  cosine-small = over-cosine (quarterTable s) fine (λ t f. natAbs t ≤ 2 ^ s) (λ t f h. rw abs-neg h) entry-small
+  pub entry-size : (j : ℕ) → j ≤ 256 → quarterTable s j ≤ 2 ^ s
+  entry-size j h = rw table-is (at-most (2 ^ (59 - s)) (pow-pos (59 - s)) (fine j) (2 ^ s) (rw scale (quarter-size j h .alone)))
 
-  pub sine-small : (j : ℕ) → natAbs (sine (quarterTable s) j) ≤ 2 ^ s
-  sine-small = over-sine (quarterTable s) fine (λ t f. natAbs t ≤ 2 ^ s) (λ t f h. rw abs-neg h) entry-small
+  pub table-cosine-size : (j : ℕ) → natAbs (cosine (quarterTable s) j) ≤ 2 ^ s
+  table-cosine-size = over-cosine (quarterTable s) fine (λ t f. natAbs t ≤ 2 ^ s) (λ t f h. rw abs-neg h) entry-size
+
+  pub table-sine-size : (j : ℕ) → natAbs (sine (quarterTable s) j) ≤ 2 ^ s
+  table-sine-size = over-sine (quarterTable s) fine (λ t f. natAbs t ≤ 2 ^ s) (λ t f h. rw abs-neg h) entry-size
 
   -- ---- at quarter turns the table is exact
 
@@ -90,8 +95,8 @@ module _ (s : ℕ) (fits : s < 60) where
       out : (t p u q : ℤ) → t *ℤ u -ℤ p *ℤ u *ℤ q ≡ (t -ℤ p *ℤ q) *ℤ u
       out t p u q = ring (t ∷ p ∷ u ∷ q ∷ []) (search quotes depth 40) tt
 
-  pub cosine-exact : (m : ℕ) → cosine (quarterTable s) (m * 256) ≡ unit m .0 *ℤ pos (2 ^ s)
-  cosine-exact m = table-exact _ _ (unit m .0) (cosine-quarters m) (cosine-near (m * 256))
+  pub cosine-exact : (m : ℕ) → cosine (quarterTable s) (m * 256) ≡ quarterUnit m .0 *ℤ pos (2 ^ s)
+  cosine-exact m = table-exact _ _ (quarterUnit m .0) (cosine-quarters m) (cosine-near (m * 256))
 
-  pub sine-exact : (m : ℕ) → sine (quarterTable s) (m * 256) ≡ unit m .1 *ℤ pos (2 ^ s)
-  sine-exact m = table-exact _ _ (unit m .1) (sine-quarters m) (sine-near (m * 256))
+  pub sine-exact : (m : ℕ) → sine (quarterTable s) (m * 256) ≡ quarterUnit m .1 *ℤ pos (2 ^ s)
+  sine-exact m = table-exact _ _ (quarterUnit m .1) (sine-quarters m) (sine-near (m * 256))

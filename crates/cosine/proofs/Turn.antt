@@ -1,4 +1,4 @@
--- The whole turn of a quarter F with F 256 = 0: its periods, its symmetries, and what a quarter turn more does.
+-- The whole turn of a quarter F: its periods and symmetries, and, where F 256 = 0, what a quarter turn more does.
 -- Example: `cosine-quarter F end j : cosine F (j + 256) ≡ negℤ (sine F j)`, with end : F 256 ≡ 0.
 use mathlib.Core.Path.{_≡_, refl, sym, _∙_, ap, subst}
 use mathlib.Core.Bool.{Bool, true, false, not}
@@ -71,12 +71,15 @@ module _ (F : ℕ → ℕ) where
   unfolding cosine
   cosine-even i j m e = ap (halfTurn F) (away-even i j m e)
 
-  pub cosine-first : (i : ℕ) → i ≤ 256 → cosine F i ≡ pos (F i)
+  pub cosine-half-turn : (k : ℕ) → k ≤ 512 → cosine F k ≡ halfTurn F k
   unfolding cosine
-  cosine-first i h = ap (halfTurn F) same ∙ halfTurn-near i h
+  cosine-half-turn k h = ap (halfTurn F) same
     where
-      same : away i ≡ i
+      same : away k ≡ k
       same = omega arith
+
+  pub cosine-first : (i : ℕ) → i ≤ 256 → cosine F i ≡ pos (F i)
+  cosine-first i h = cosine-half-turn i (omega arith) ∙ halfTurn-near i h
 
   pub sine-first : (i : ℕ) → i ≤ 256 → sine F i ≡ pos (F (256 - i))
   unfolding sine cosine

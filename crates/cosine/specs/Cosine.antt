@@ -5,7 +5,7 @@ use Prim.Native.Nat.{ℕ, zero, suc, _+_, _-_, _*_, _/_, _%_, _^_, min}
 use lib.Dec.{leb, eqb}
 use lib.IntN.{ℤ, pos, negℤ, natAbs, _+ℤ_, _*ℤ_}
 use lib.ListN.{getD}
-use Rattle.refusal.specs.Kind.{TURN}
+use Rattle.refusal.specs.BlockKinds.{TURN}
 use Rattle.cosine.specs.Root.{root}
 
 -- a quarter's cosines as a list has them
@@ -18,7 +18,7 @@ entries quarter j = getD quarter j 0
 unfoldable pub halfTurn : (ℕ → ℕ) → ℕ → ℤ
 halfTurn F k = elim (leb k 256) [ true ↦ pos (F k) | false ↦ negℤ (pos (F (512 - k))) ]
 
--- even about 0: j steps are as far from the nearest whole turn, 0 to 512 steps, on either side of it
+-- even about 0: the steps from j to the nearest whole turn, 0 to 512, on whichever side that is
 abbrev pub away : ℕ → ℕ
 away j = min (j % TURN) (TURN - j % TURN)
 
@@ -36,23 +36,24 @@ unfoldable pub cas : (ℕ → ℕ) → ℕ → ℤ
 unfolding cosine sine
 cas F j = cosine F j +ℤ sine F j
 
--- ---- the fine cosines F(j), at scale 2^60
+-- ---- the fine cosines F(j), at scale 2^b with b = 60 in force
 
--- the half-angle law: from G, the cosine of twice the angle, the whole square root, rounded down, of (2^60 + G) × 2^59
-abbrev pub halfAngle : ℤ → ℕ
-halfAngle G = root (natAbs ((pos (2 ^ 60) +ℤ G) *ℤ pos (2 ^ 59)))
+-- the half-angle law: from G, the cosine of twice the angle, the whole square root, rounded down, of (2^60 + G) × 2^59.
+-- 2^60 + G is never negative (`no-less` in proofs/FineTurn).
+abbrev pub halfAngle : ℕ → ℤ → ℕ
+halfAngle b G = root (natAbs ((pos (2 ^ b) +ℤ G) *ℤ pos (2 ^ (b - 1))))
 
 -- F(0) = 2^60, F(256) = 0, and for 0 < j < 256 the half-angle law, where G is F(2j) if 2j is at most 256, else minus F(512 - 2j).
 -- By recursion on d, the doublings of the angle that are left.
-unfoldable pub fineWith : ℕ → ℕ → ℕ
+unfoldable pub fineWith : ℕ → ℕ → ℕ → ℕ
 unfolding root halfTurn
-fineWith zero j = cond (eqb j 0) (2 ^ 60) 0
-fineWith (suc d) j = cond (eqb j 0) (2 ^ 60) (cond (eqb j 256) 0 (halfAngle (halfTurn (fineWith d) (2 * j))))
+fineWith b zero j = cond (eqb j 0) (2 ^ b) 0
+fineWith b (suc d) j = cond (eqb j 0) (2 ^ b) (cond (eqb j 256) 0 (halfAngle b (halfTurn (fineWith b d) (2 * j))))
 
 -- F(j): eight doublings lead from every j to 0 or 256
 unfoldable pub fine : ℕ → ℕ
 unfolding fineWith
-fine j = fineWith 8 j
+fine j = fineWith 60 8 j
 
 -- ---- the quarter table at scale 2^s, 257 numbers
 

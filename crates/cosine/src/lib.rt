@@ -3,9 +3,9 @@ mod table;
 
 use refusal::BlockKind;
 ghost use mathlib.Core.Path.{_≡_};
-ghost use lib.IntN.{pos};
+ghost use lib.IntN.{negℤ, pos};
 ghost use Rattle.ints.specs.Tabulate.{tabulate};
-ghost use Rattle.refusal.specs.Kind.{SCALE-DIGITS};
+ghost use Rattle.refusal.specs.BlockKinds.{SCALE-DIGITS};
 ghost use Rattle.cosine.specs.Cosine.{away, cosine, entries, sine, quarterTable};
 
 // The engine's quarter table: T(0) to T(256).
@@ -21,9 +21,9 @@ pub fn cosine(quarter: &[u32; 257], step: usize) -> i64
 {
     let k = steps_away(step);
     if k <= 256 {
-        wide(quarter[k])
+        positive(quarter[k])
     } else {
-        -wide(quarter[512 - k])
+        negative(quarter[512 - k])
     }
 }
 
@@ -47,8 +47,15 @@ fn steps_away(step: usize) -> usize
 }
 
 // An entry of a table as a signed number.
-fn wide(entry: u32) -> i64
+fn positive(entry: u32) -> i64
     ensures { λ r. ⌜ r ≡ pos entry ⌝ }
 {
     entry as i64
+}
+
+// Minus an entry of a table.
+fn negative(entry: u32) -> i64
+    ensures { λ r. ⌜ r ≡ negℤ (pos entry) ⌝ }
+{
+    -(entry as i64)
 }

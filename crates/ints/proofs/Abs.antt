@@ -8,7 +8,8 @@ use lib.IntN.{ℤ, pos, negsuc, negℤ, natAbs, _+ℤ_, _-ℤ_, _*ℤ_}
 use Rattle.ints.proofs.Ring.{Built, ring, quotes, normal}
 use Rattle.ints.proofs.Order.{_≼_, pos-inj, gained, lost, built-parts, le-goal, le-fact}
 
--- |P − M| is P + M less twice the smaller
+-- ---- for `omega`: |P − M| is P + M less twice the smaller
+
 of-parts : (z : ℤ) (P M : ℕ) → pos P ≡ z +ℤ pos M → natAbs z + (min P M + min P M) ≡ P + M
 of-parts (pos n) P M h = omega (arith, pos-inj h)
 of-parts (negsuc n) P M h = omega (arith, pos-inj g)
@@ -21,6 +22,8 @@ of-parts (negsuc n) P M h = omega (arith, pos-inj g)
 
 pub abs-fact : (Γ : List ℤ) (z : ℤ) (q : Built Γ z) → let P = gained Γ (normal q) in let M = lost Γ (normal q) in natAbs z + (min P M + min P M) ≡ P + M
 abs-fact Γ z q = of-parts z (gained Γ (normal q)) (lost Γ (normal q)) (built-parts Γ q)
+
+-- ---- of a negative, a sum, a difference and a product
 
 pub abs-neg : (a : ℤ) → natAbs (negℤ a) ≡ natAbs a
 abs-neg a = let Γ = a ∷ [] in omega (arith, abs-fact Γ a (search quotes), abs-fact Γ (negℤ a) (search quotes))
@@ -38,7 +41,8 @@ abs-times (pos a) (negsuc b) = abs-neg (pos (a * suc b))
 abs-times (negsuc a) (pos b) = abs-neg (pos (suc a * b))
 abs-times (negsuc a) (negsuc b) = refl
 
--- |z| ≤ n, as two orders, and back
+-- ---- |z| ≤ n, as two orders, and back
+
 pub abs-upper : {z : ℤ} {n : ℕ} → natAbs z ≤ n → z ≼ pos n
 abs-upper {z} {n} h = let Γ = z ∷ pos n ∷ [] in le-goal Γ (search quotes) (omega (arith, abs-fact Γ z (search quotes)))
 
@@ -48,6 +52,8 @@ abs-lower {z} {n} h = let Γ = z ∷ pos n ∷ [] in le-goal Γ (search quotes) 
 pub abs-between : {z : ℤ} {n : ℕ} → negℤ (pos n) ≼ z → z ≼ pos n → natAbs z ≤ n
 abs-between {z} {n} h k = let Γ = z ∷ pos n ∷ [] in
     omega (arith, abs-fact Γ z (search quotes), le-fact Γ h (search quotes), le-fact Γ k (search quotes))
+
+-- ---- |z| = 0
 
 pub abs-zero : (z : ℤ) → natAbs z ≤ 0 → z ≡ pos 0
 abs-zero (pos n) h = ap pos (omega arith)

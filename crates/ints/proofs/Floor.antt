@@ -12,7 +12,8 @@ use Rattle.ints.proofs.Ring.{quotes}
 use Rattle.ints.proofs.Order.{_≼_, _≺_, gap, le-goal, lt-fact, lt-goal, eq-fact, ≼-plus, ≼-antisym, ≼-≺-trans, ≼-of-≺-suc, *-cancel-≺}
 use Rattle.ints.proofs.Abs.{abs-fact}
 
--- the machine's shift to the right by k digits is the floor by 2 ^ k
+-- ---- on the two signs: the machine's shift to the right, and a natural number
+
 pub shift-is-floor : (z : ℤ) (m : ℕ) → shrZ z m ≡ floor z m
 unfolding floor
 shift-is-floor (pos n) m = refl
@@ -51,6 +52,8 @@ floor-unique z m q h a b = ≼-antisym (low (floor z m) q (floor-le z m h) b) (l
 pub floor-exact : (m : ℕ) (q : ℤ) (r : ℕ) → r < m → floor (pos m *ℤ q +ℤ pos r) m ≡ q
 floor-exact m q r h = floor-unique (pos m *ℤ q +ℤ pos r) m q (omega arith) (≼-plus (pos m *ℤ q) r)
     (let Γ = pos m ∷ q ∷ pos r ∷ [] in lt-goal Γ (search quotes) (omega arith))
+
+-- ---- with its remainder
 
 pub record Rest (z : ℤ) (m : ℕ) : Type 0 where
   pub rest : ℕ

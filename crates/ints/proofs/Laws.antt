@@ -4,18 +4,23 @@ use mathlib.Core.Path.{_≡_, refl, sym, _∙_, ap, ap₂}
 use Prim.Native.Nat.{zero, suc}
 use lib.IntN.{ℤ, pos, negsuc, sucℤ, predℤ, negℤ, _+ℤ_, _-ℤ_, _*ℤ_, +ℤ-idl, +ℤ-assoc, +ℤ-comm, sucℤ-+ℤ, predℤ-+ℤ, sucℤ-*ℤ, predℤ-*ℤ, zero-*ℤ, *ℤ-comm, negℤ-negℤ}
 
--- from 0, one step up or down at a time
+-- ---- induction: from 0, one step up or down at a time
+
 by-steps : (P : ℤ → Type 0) → P (pos zero) → ((m : ℤ) → P m → P (sucℤ m)) → ((m : ℤ) → P m → P (predℤ m)) → (m : ℤ) → P m
 by-steps P z up down (pos zero) = z
 by-steps P z up down (pos (suc n)) = up (pos n) (by-steps P z up down (pos n))
 by-steps P z up down (negsuc zero) = down (pos zero) z
 by-steps P z up down (negsuc (suc n)) = down (negsuc n) (by-steps P z up down (negsuc n))
 
+-- ---- sums in another order
+
 pub +ℤ-left-comm : (a b c : ℤ) → a +ℤ (b +ℤ c) ≡ b +ℤ (a +ℤ c)
 +ℤ-left-comm a b c = sym (+ℤ-assoc a b c) ∙ ap (λ (x : ℤ). x +ℤ c) (+ℤ-comm a b) ∙ +ℤ-assoc b a c
 
 +ℤ-right-comm : (a b c : ℤ) → a +ℤ b +ℤ c ≡ a +ℤ c +ℤ b
 +ℤ-right-comm a b c = +ℤ-assoc a b c ∙ ap (λ (x : ℤ). a +ℤ x) (+ℤ-comm b c) ∙ sym (+ℤ-assoc a c b)
+
+-- ---- the product over a sum, with a sign, and of three factors
 
 pub *ℤ-distr : (m k c : ℤ) → (m +ℤ k) *ℤ c ≡ m *ℤ c +ℤ k *ℤ c
 *ℤ-distr m k c = by-steps (λ m. (m +ℤ k) *ℤ c ≡ m *ℤ c +ℤ k *ℤ c)

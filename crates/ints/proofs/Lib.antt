@@ -2,6 +2,7 @@ pub mod Laws
 pub mod Ring
 pub mod Order
 pub mod Abs
+pub mod Powers
 pub mod Floor
 pub mod Rounding
 pub mod Sums

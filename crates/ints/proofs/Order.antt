@@ -186,7 +186,7 @@ module _ (Γ : List ℤ) {a b : ℤ} where
   pub eq-goal : (e : Sides Γ a b) → lost Γ (difference e) ≡ gained Γ (difference e) → a ≡ b
   eq-goal e h = sym (gap-in-ℤ a b (gained Γ (difference e)) (lost Γ (difference e)) (difference-ok e) 0 (sym h ∙ sym (zero-add (lost Γ (difference e)))) ∙ +ℤ-idr a)
 
--- ---- laws
+-- ---- transitive, antisymmetric, total; sums and products
 
 pub ≼-trans : {a b c : ℤ} → a ≼ b → b ≼ c → a ≼ c
 ≼-trans {a} {b} {c} h k = let Γ = a ∷ b ∷ c ∷ [] in

@@ -9,8 +9,7 @@ use lib.IntN.{ℤ, pos, negsuc, negℤ, natAbs, _+ℤ_, _-ℤ_, _*ℤ_}
 use lib.Signed.{mag}
 use Rattle.ints.specs.Quotient.{floor, rounded}
 use Rattle.ints.proofs.Ring.{ring, quotes, sub-zero}
-use Rattle.ints.proofs.Order.{eq-fact}
-use Rattle.ints.proofs.Abs.{abs-fact, abs-times, abs-zero}
+use Rattle.ints.proofs.Abs.{abs-times, abs-zero}
 use Rattle.ints.proofs.Floor.{Rest, floor-exact, floor-rest, half-added-near}
 
 half-of : (h : ℕ) → 2 * h / 2 ≡ h
@@ -40,41 +39,55 @@ exact-of-near d R k near y = sub-zero (R (y *ℤ pos d)) y (multiple-zero (R (y 
     out : pos d *ℤ R (y *ℤ pos d) -ℤ y *ℤ pos d ≡ (R (y *ℤ pos d) -ℤ y) *ℤ pos d
     out = ring (R (y *ℤ pos d) ∷ y ∷ pos d ∷ []) (search quotes) tt
 
--- ---- as the machine has it: x in halves of the divisor, rounded down, and those in pairs, rounded up
+-- ---- as the machine has it: by half the divisor, rounded down, and then by 2
 
-pub by-halves : (h : ℕ) → zero < h → (x : ℤ) → floor x h -ℤ floor (floor x h) 2 ≡ rounded (2 * h) x
+pub rounded-halves : (h : ℕ) → zero < h → (x : ℤ) → rounded 2 (floor x h) ≡ rounded (2 * h) x
 unfolding rounded
-by-halves h z x = rw half-of (go (floor-rest x h z) (floor-rest (floor x h) 2 (omega arith)))
+rounded-halves h z x = let s = floor-rest x h z in let t = floor-rest (floor x h +ℤ pos 1) 2 (omega arith) in
+    rw half-of (go (floor x h) (floor (floor x h +ℤ pos 1) 2) (t .rest) (s .rest) (t .small) (s .small) (t .whole) (s .whole))
   where
-    even : (f : ℤ) (r : ℕ) → r < h → floor (pos h *ℤ (pos 2 *ℤ f +ℤ pos 0) +ℤ pos r +ℤ pos h) (2 * h) ≡ f
-    even f r k = ap (λ (y : ℤ). floor y (2 * h)) e ∙ floor-exact (2 * h) f (r + h) (omega arith)
-      where
-        e : pos h *ℤ (pos 2 *ℤ f +ℤ pos 0) +ℤ pos r +ℤ pos h ≡ pos (2 * h) *ℤ f +ℤ pos (r + h)
-        e = ring (f ∷ pos h ∷ pos r ∷ []) (search quotes depth 40) tt
+    below : (b r : ℕ) → b < 2 → r < h → h * b + r < 2 * h
+    below zero r j k = omega arith
+    below (suc zero) r j k = omega arith
+    below (suc (suc b)) r j k = omega arith
 
-    odd : (f : ℤ) (r : ℕ) → r < h → floor (pos h *ℤ (pos 2 *ℤ f +ℤ pos 1) +ℤ pos r +ℤ pos h) (2 * h) ≡ f +ℤ pos 1
-    odd f r k = ap (λ (y : ℤ). floor y (2 * h)) e ∙ floor-exact (2 * h) (f +ℤ pos 1) r (omega arith)
-      where
-        e : pos h *ℤ (pos 2 *ℤ f +ℤ pos 1) +ℤ pos r +ℤ pos h ≡ pos (2 * h) *ℤ (f +ℤ pos 1) +ℤ pos r
-        e = ring (f ∷ pos h ∷ pos r ∷ []) (search quotes depth 40) tt
+    more : (q : ℤ) (r : ℕ) → pos h *ℤ q +ℤ pos r +ℤ pos h ≡ pos h *ℤ (q +ℤ pos 1) +ℤ pos r
+    more q r = ring (q ∷ pos h ∷ pos r ∷ []) (search quotes depth 40) tt
 
-    cases : (q f : ℤ) (b r : ℕ) → b < 2 → r < h → q ≡ pos 2 *ℤ f +ℤ pos b → x ≡ pos h *ℤ q +ℤ pos r → q -ℤ f ≡ floor (x +ℤ pos h) (2 * h)
-    cases q f zero r j k eq ex = rw (ex, eq) (ring (f ∷ []) (search quotes depth 40) tt ∙ sym (even f r k))
-    cases q f (suc zero) r j k eq ex = rw (ex, eq) (ring (f ∷ []) (search quotes depth 40) tt ∙ sym (odd f r k))
-    cases q f (suc (suc b)) r j k eq ex = absurd (never b j)
+    out : (f : ℤ) (b r : ℕ) → pos h *ℤ (pos 2 *ℤ f +ℤ pos b) +ℤ pos r ≡ pos (2 * h) *ℤ f +ℤ pos (h * b + r)
+    out f b r = ring (f ∷ pos h ∷ pos b ∷ pos r ∷ []) (search quotes depth 40) tt
+
+    -- q is the quotient by h with the rest r, and f that of q + 1 by 2 with the rest b
+    go : (q f : ℤ) (b r : ℕ) → b < 2 → r < h → q +ℤ pos 1 ≡ pos 2 *ℤ f +ℤ pos b → x ≡ pos h *ℤ q +ℤ pos r → f ≡ floor (x +ℤ pos h) (2 * h)
+    go q f b r j k eq ex = sym (ap (λ (y : ℤ). floor y (2 * h)) e ∙ floor-exact (2 * h) f (h * b + r) (below b r j k))
+      where
+        e : x +ℤ pos h ≡ pos (2 * h) *ℤ f +ℤ pos (h * b + r)
+        e = ap (λ (y : ℤ). y +ℤ pos h) ex ∙ more q r ∙ ap (λ (y : ℤ). pos h *ℤ y +ℤ pos r) eq ∙ out f b r
+
+-- half of x, halves up, is what is left of x when its half, rounded down, is taken away
+pub half-left : (x : ℤ) → x -ℤ floor x 2 ≡ rounded 2 x
+unfolding rounded
+half-left x = let s = floor-rest x 2 (omega arith) in go x (floor x 2) (s .rest) (s .small) (s .whole)
+  where
+    even : (f : ℤ) → pos 2 *ℤ f +ℤ pos 0 -ℤ f ≡ f
+    even f = ring (f ∷ []) (search quotes depth 40) tt
+
+    odd : (f : ℤ) → pos 2 *ℤ f +ℤ pos 1 -ℤ f ≡ f +ℤ pos 1
+    odd f = ring (f ∷ []) (search quotes depth 40) tt
+
+    even-up : (f : ℤ) → pos 2 *ℤ f +ℤ pos 0 +ℤ pos 1 ≡ pos 2 *ℤ f +ℤ pos 1
+    even-up f = ring (f ∷ []) (search quotes depth 40) tt
+
+    odd-up : (f : ℤ) → pos 2 *ℤ f +ℤ pos 1 +ℤ pos 1 ≡ pos 2 *ℤ (f +ℤ pos 1) +ℤ pos 0
+    odd-up f = ring (f ∷ []) (search quotes depth 40) tt
+
+    go : (x f : ℤ) (b : ℕ) → b < 2 → x ≡ pos 2 *ℤ f +ℤ pos b → x -ℤ f ≡ floor (x +ℤ pos 1) 2
+    go x f zero j e = rw (e, even f, even-up f) (sym (floor-exact 2 f 1 (omega arith)))
+    go x f (suc zero) j e = rw (e, odd f, odd-up f) (sym (floor-exact 2 (f +ℤ pos 1) 0 (omega arith)))
+    go x f (suc (suc b)) j e = absurd (never b j)
       where
         never : (b : ℕ) → suc (suc b) < 2 → ⊥
         never b j = omega arith
-
-    go : Rest x h → Rest (floor x h) 2 → floor x h -ℤ floor (floor x h) 2 ≡ floor (x +ℤ pos h) (2 * h)
-    go s t = cases (floor x h) (floor (floor x h) 2) (t .rest) (s .rest) (t .small) (s .small) (t .whole) (s .whole)
-
-pub half-up-small : (q : ℤ) → 2 * natAbs (q -ℤ floor q 2) ≤ natAbs q + 1
-half-up-small q = go (floor-rest q 2 (omega arith))
-  where
-    go : Rest q 2 → 2 * natAbs (q -ℤ floor q 2) ≤ natAbs q + 1
-    go s = let Γ = q ∷ floor q 2 ∷ pos (s .rest) ∷ [] in
-        omega (arith, s .small, eq-fact Γ (s .whole) (search quotes), abs-fact Γ q (search quotes), abs-fact Γ (q -ℤ floor q 2) (search quotes))
 
 -- ---- the divisors that no shift reaches: 1, and those above twice the size of x
 

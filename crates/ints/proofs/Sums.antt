@@ -9,6 +9,8 @@ use Rattle.ints.specs.Sum.{sum}
 use Rattle.ints.proofs.Ring.{ring, quotes}
 use Rattle.ints.proofs.Abs.{abs-plus}
 
+-- ---- term by term
+
 pub sum-suc : (n : ℕ) (f : ℕ → ℤ) → sum (suc n) f ≡ sum n f +ℤ f n
 unfolding sum
 sum-suc n f = refl
@@ -17,6 +19,8 @@ pub sum-cong : (n : ℕ) (f g : ℕ → ℤ) → ((i : ℕ) → i < n → f i �
 unfolding sum
 sum-cong zero f g h = refl
 sum-cong (suc n) f g h = ap₂ _+ℤ_ (sum-cong n f g (λ i k. h i (omega arith))) (h n (omega arith))
+
+-- ---- linear
 
 pub sum-plus : (n : ℕ) (f g : ℕ → ℤ) → sum n (λ i. f i +ℤ g i) ≡ sum n f +ℤ sum n g
 unfolding sum
@@ -27,6 +31,8 @@ pub sum-times : (n : ℕ) (c : ℤ) (f : ℕ → ℤ) → sum n (λ i. c *ℤ f 
 unfolding sum
 sum-times zero c f = ring (c ∷ []) (search quotes) tt
 sum-times (suc n) c f = ap (λ (z : ℤ). z +ℤ c *ℤ f n) (sum-times n c f) ∙ ring (sum n f ∷ f n ∷ c ∷ []) (search quotes) tt
+
+-- ---- even and odd places
 
 pub sum-even-odd : (n : ℕ) (f : ℕ → ℤ) → sum (2 * n) f ≡ sum n (λ i. f (2 * i)) +ℤ sum n (λ i. f (2 * i + 1))
 unfolding sum
@@ -39,6 +45,8 @@ sum-even-odd (suc n) f = ap (λ (k : ℕ). sum k f) two ∙ ap₂ (λ (z w : ℤ
 
     one : suc (2 * n) ≡ 2 * n + 1
     one = omega arith
+
+-- ---- a bound
 
 pub sum-abs : (n B : ℕ) (f : ℕ → ℤ) → ((i : ℕ) → i < n → natAbs (f i) ≤ B) → natAbs (sum n f) ≤ n * B
 unfolding sum

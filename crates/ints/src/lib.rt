@@ -5,7 +5,7 @@ ghost use lib.IntN.{natAbs};
 ghost use Rattle.ints.specs.Quotient.{rounded};
 
 // x divided by 2^digits, rounded to the nearest whole number, halves up (document 01, Levels 3), for every x and every number of digits.
-// x is counted in halves of the divisor, rounded down, and those in pairs, rounded up, so that no sum can overflow.
+// The quotient by half the divisor, rounded down, is halved with rounding, so that no sum can overflow.
 pub fn rounded(x: i64, digits: usize) -> i64
     ensures { λ r. ⌜ r ≡ rounded (2 ^ digits) x ⌝ }
 {
@@ -15,8 +15,14 @@ pub fn rounded(x: i64, digits: usize) -> i64
     if 63 < digits {
         return 0;
     }
-    let halves = x >> (digits - 1);
-    halves - (halves >> 1)
+    halved(x >> (digits - 1))
+}
+
+// Half of x, halves up.
+fn halved(x: i64) -> i64
+    ensures { λ r. ⌜ r ≡ rounded 2 x ⌝ }
+{
+    x - (x >> 1)
 }
 
 // The absolute value of x, for every x.

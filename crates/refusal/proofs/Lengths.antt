@@ -1,5 +1,5 @@
 -- A block's kind is given exactly for the lengths 2^P with P from 1 to 10.
--- Example: `kind-length n P e .cells : n ≡ 2 ^ P`, with e : kindOf n ≡ Kind (record { p = P }).
+-- Example: `kind-length n P e .cells : n ≡ 2 ^ P`, with e : kindOf n ≡ Taken (record { p = P }).
 use mathlib.Core.Path.{_≡_, refl, sym, _∙_, ap}
 use mathlib.Core.Bool.{Bool, true, false, cond}
 use Prim.Native.Nat.{ℕ, zero, suc, _^_, _≤_, _<_}
@@ -8,9 +8,9 @@ use borrow.Author.Tests.{eq-eqb, ne-eqb, eqb-true, ltb-true, ltb-false}
 use lib.Dec.{eqb, ltb}
 use lib.Pow.{pow-lt}
 use Rattle.refusal.specs.declared.KindAnswer.{KindAnswer}
-use Rattle.refusal.specs.declared.KindAnswer.the-variants.{Kind, Refused}
+use Rattle.refusal.specs.declared.KindAnswer.the-variants.{Taken, Refused}
 use Rattle.refusal.specs.declared.Refusal.the-variants.{Length}
-use Rattle.refusal.specs.Kind.{exponent, answer, kindOf}
+use Rattle.refusal.specs.BlockKinds.{exponent, answer, kindOf}
 
 -- ---- the exponent
 
@@ -51,23 +51,23 @@ pub record Kind-length (n P : ℕ) : Type 0 where
   pub cells : n ≡ 2 ^ P
 
 abbrev exponent-of : KindAnswer → ℕ
-exponent-of (Kind k) = k .p
+exponent-of (Taken k) = k .p
 exponent-of (Refused r) = 0
 
-pub kind-length : (n P : ℕ) → kindOf n ≡ Kind (record { p = P }) → Kind-length n P
+pub kind-length : (n P : ℕ) → kindOf n ≡ Taken (record { p = P }) → Kind-length n P
 unfolding kindOf
 kind-length n P e = go (exponent 10 n) refl e
   where
-    go : (x : ℕ) → exponent 10 n ≡ x → answer x ≡ Kind (record { p = P }) → Kind-length n P
+    go : (x : ℕ) → exponent 10 n ≡ x → answer x ≡ Taken (record { p = P }) → Kind-length n P
     go zero e k = let z : _≡_ {A = ℕ} 0 1 = cc in omega arith
     go (suc x) e k = let same : suc x ≡ P = ap exponent-of k in let f = found 10 n x e in
         record { least = omega arith; most = omega arith; cells = f .1 ∙ ap (λ (y : ℕ). 2 ^ y) same }
 
-pub kind-given : (n P : ℕ) → Kind-length n P → kindOf n ≡ Kind (record { p = P })
+pub kind-given : (n P : ℕ) → Kind-length n P → kindOf n ≡ Taken (record { p = P })
 unfolding kindOf
 kind-given n P h = ap (λ (x : ℕ). answer (exponent 10 x)) (h .cells) ∙ ap answer (exponent-pow 10 P (h .least) (h .most)) ∙ go P (h .least)
   where
-    go : (P : ℕ) → 1 ≤ P → answer P ≡ Kind (record { p = P })
+    go : (P : ℕ) → 1 ≤ P → answer P ≡ Taken (record { p = P })
     go zero h = absurd (never h)
       where
         never : 1 ≤ 0 → ⊥

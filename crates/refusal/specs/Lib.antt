@@ -1,2 +1,2 @@
-pub mod Refused
-pub mod Kind
+pub mod RefusalTable
+pub mod BlockKinds

@@ -1,8 +1,8 @@
 // Refusals with their numbers and places, the block's kind, and the two counts that must not be mixed up: moments and lines.
 ghost use mathlib.Core.Path.{_≡_};
 ghost use mathlib.Core.List.{[], _∷_};
-ghost use Rattle.refusal.specs.Refused.{number, place};
-ghost use Rattle.refusal.specs.Kind.{kindOf, LARGEST, SCALE, SCALE-DIGITS, TURN};
+ghost use Rattle.refusal.specs.RefusalTable.{number, place};
+ghost use Rattle.refusal.specs.BlockKinds.{kindOf, LARGEST, SCALE, SCALE-DIGITS, TURN};
 
 // A moment of a block, counted from 0 (document 01's t, the source's tau).
 pub struct Moment(pub usize);
@@ -66,14 +66,14 @@ impl Refusal {
     }
 }
 
-// A block's kind: a block has 2^p cells, p from 1 to 10 (document 01's P).
+// A block's kind: a block has 2^p cells (document 01's P). `of_len` gives p from 1 to 10; a call that is handed a kind tests it.
 pub struct BlockKind {
     pub p: usize,
 }
 
 // The kind of a block, or why there is none.
 pub enum KindAnswer {
-    Kind(BlockKind),
+    Taken(BlockKind),
     Refused(Refusal),
 }
 
@@ -89,7 +89,8 @@ impl BlockKind {
 
     // The four constants, which are document 01's.
     pub fn constants() -> [usize; 4]
-        ensures { λ r. ⌜ r ≡ LARGEST ∷ TURN ∷ SCALE ∷ SCALE-DIGITS ∷ [] ⌝ }
+        ensures named { λ _. do ⌜ ((← ⟦BlockKind::LARGEST⟧ .entry) ≡ LARGEST) × ((← ⟦BlockKind::TURN⟧ .entry) ≡ TURN) × ((← ⟦BlockKind::SCALE⟧ .entry) ≡ SCALE) × ((← ⟦BlockKind::SCALE_DIGITS⟧ .entry) ≡ SCALE-DIGITS) ⌝ }
+        ensures listed { λ r. ⌜ r ≡ LARGEST ∷ TURN ∷ SCALE ∷ SCALE-DIGITS ∷ [] ⌝ }
     {
         [
             BlockKind::LARGEST,
@@ -107,7 +108,7 @@ impl BlockKind {
         let mut cells = 2;
         while cells <= BlockKind::LARGEST {
             if cells == len {
-                return KindAnswer::Kind(BlockKind { p });
+                return KindAnswer::Taken(BlockKind { p });
             }
             cells = 2 * cells;
             p += 1;

@@ -3,7 +3,7 @@ use mathlib.Core.Path.{_≡_}
 use mathlib.Core.List.{List, [], _∷_, map}
 use lib.IntN.{ℤ, pos, negℤ, _*ℤ_}
 use Rattle.ints.specs.Quotient.{floor, rounded}
-use Rattle.refusal.specs.Kind.{SCALE, SCALE-DIGITS}
+use Rattle.refusal.specs.BlockKinds.{SCALE, SCALE-DIGITS}
 use Rattle.cosine.specs.Cosine.{quarterTable}
 
 -- what a definition gives, and what document 01 says that it gives

@@ -28,13 +28,21 @@ fn constants() {
     print(b"\n");
 }
 
-// T at a step of the first quarter, by way of the whole turn's cosine.
-fn table_at(quarter: &[u32; 257], step: usize) {
-    print(b"T ");
+// A word, a step and the table's number for it.
+fn at_step(word: &[u8], step: usize, entry: i64) {
+    print(word);
     io::print_decimal(STDOUT_FILENO, step as u64);
     print(b" ");
-    print_signed(cosine::cosine(quarter, step));
+    print_signed(entry);
     print(b"\n");
+}
+
+fn cosine_at(quarter: &[u32; 257], step: usize) {
+    at_step(b"cosine ", step, cosine::cosine(quarter, step));
+}
+
+fn sine_at(quarter: &[u32; 257], step: usize) {
+    at_step(b"sine ", step, cosine::sine(quarter, step));
 }
 
 // The rounding of a level.
@@ -52,7 +60,7 @@ fn length_of(len: usize) {
     io::print_decimal(STDOUT_FILENO, len as u64);
     let answer = BlockKind::of_len(len);
     match answer {
-        KindAnswer::Kind(kind) => {
+        KindAnswer::Taken(kind) => {
             print(b" P ");
             io::print_decimal(STDOUT_FILENO, kind.p as u64);
         }
@@ -69,11 +77,23 @@ fn length_of(len: usize) {
 fn main() {
     constants();
     let quarter = cosine::quarter_table();
-    table_at(&quarter, 0);
-    table_at(&quarter, 64);
-    table_at(&quarter, 128);
-    table_at(&quarter, 192);
-    table_at(&quarter, 256);
+    // T at 0, 64, 128, 192, 256, and one step of each later quarter
+    cosine_at(&quarter, 0);
+    cosine_at(&quarter, 64);
+    cosine_at(&quarter, 128);
+    cosine_at(&quarter, 192);
+    cosine_at(&quarter, 256);
+    cosine_at(&quarter, 384);
+    cosine_at(&quarter, 512);
+    cosine_at(&quarter, 704);
+    cosine_at(&quarter, 960);
+    cosine_at(&quarter, 1088);
+    sine_at(&quarter, 0);
+    sine_at(&quarter, 64);
+    sine_at(&quarter, 256);
+    sine_at(&quarter, 448);
+    sine_at(&quarter, 640);
+    sine_at(&quarter, 768);
     rounding_of(8192 * 23170);
     rounding_of(-8192 * 23170);
     length_of(0);

@@ -9,7 +9,7 @@ use borrow.Author.Count.{below-more}
 use borrow.Author.Tests.{ltb-true, ltb-false}
 use lib.Dec.{ltb}
 use lib.Pow.{pow-mono}
-use Rattle.refusal.specs.Kind.{LARGEST}
+use Rattle.refusal.specs.BlockKinds.{LARGEST}
 use Rattle.refusal.proofs.Lengths.{kind-given, kind-refused}
 use Rattle.refusal.proofs.BlockKind.of_len.Statement.{statement}
 use Rattle.refusal.proofs.BlockKind.of_len.Tie as tie

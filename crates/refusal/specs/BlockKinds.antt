@@ -4,7 +4,7 @@ use Prim.Native.Nat.{ℕ, zero, suc, _^_}
 use lib.Dec.{eqb}
 use Rattle.refusal.specs.declared.Refusal.the-variants.{Length}
 use Rattle.refusal.specs.declared.KindAnswer.{KindAnswer}
-use Rattle.refusal.specs.declared.KindAnswer.the-variants.{Kind, Refused}
+use Rattle.refusal.specs.declared.KindAnswer.the-variants.{Taken, Refused}
 
 -- the largest length of a block
 abbrev pub LARGEST : ℕ
@@ -21,14 +21,15 @@ SCALE-DIGITS = 15
 abbrev pub SCALE : ℕ
 SCALE = 2 ^ SCALE-DIGITS
 
--- the P from 1 to `most` with 2^P = n, or 0 where there is none
+-- the largest of the numbers m, m - 1, .., 1 with 2 to that power n, or 0 where there is none
 unfoldable pub exponent : ℕ → ℕ → ℕ
 exponent zero n = 0
-exponent (suc P) n = cond (eqb (2 ^ suc P) n) (suc P) (exponent P n)
+exponent (suc m) n = cond (eqb (2 ^ suc m) n) (suc m) (exponent m n)
 
+-- the kind with that P, and refusal 1 where there is none
 abbrev pub answer : ℕ → KindAnswer
 answer zero = Refused Length
-answer (suc P) = Kind (record { p = suc P })
+answer (suc m) = Taken (record { p = suc m })
 
 -- the kind of a block of n cells, or refusal 1
 unfoldable pub kindOf : ℕ → KindAnswer

@@ -1,10 +1,10 @@
--- `wide` is right because 32 bits fit in 63.
+-- `positive` is right because 32 bits fit in 63.
 use borrow.Author.Needs.{needs}
 use native.Mathlib.Omega.{arith}
 use mir.Syntax.{w64}
 use mir.ValLaws.{toZ-pos}
-use Rattle.cosine.proofs.wide.Statement.{statement}
-use Rattle.cosine.proofs.wide.Tie as tie
+use Rattle.cosine.proofs.positive.Statement.{statement}
+use Rattle.cosine.proofs.positive.Tie as tie
 
 cast-result : tie.Need-cast-result
 cast-result c = search needs
@@ -12,5 +12,5 @@ cast-result c = search needs
 returns : tie.Need-returns
 returns c = toZ-pos w64 (c .args .entry) (omega (arith, c .fits .entry))
 
-pub wide-spec : {M : Type 1} → statement M
-wide-spec = tie.close (tie.spec cast-result returns)
+pub positive-spec : {M : Type 1} → statement M
+positive-spec = tie.close (tie.spec cast-result returns)

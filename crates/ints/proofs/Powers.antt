@@ -1,0 +1,15 @@
+-- Powers of two. Example: `two-pow k : 2 ^ suc k ≡ 2 * 2 ^ k`.
+use mathlib.Core.Path.{_≡_, _∙_, ap}
+use Prim.Native.Nat.{ℕ, suc, _-_, _*_, _^_, _<_}
+use native.Mathlib.Nat.{pow-suc, mul-comm}
+use native.Mathlib.Omega.{arith}
+
+pub two-pow : (k : ℕ) → 2 ^ suc k ≡ 2 * 2 ^ k
+two-pow k = pow-suc 2 k ∙ mul-comm (2 ^ k) 2
+
+-- the same, at a power that is not 0
+pub two-pow-pred : (k : ℕ) → 0 < k → 2 ^ k ≡ 2 * 2 ^ (k - 1)
+two-pow-pred k h = ap (λ (n : ℕ). 2 ^ n) up ∙ two-pow (k - 1)
+  where
+    up : k ≡ suc (k - 1)
+    up = omega arith
