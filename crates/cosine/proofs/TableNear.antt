@@ -1,4 +1,4 @@
--- The quarter table at every scale 2^s with s < 60: within half a quarterUnit of the fine cosines over the whole turn, and no larger than its scale.
+-- The quarter table at every scale 2^s with s < 60: within half a unit of the fine cosines over the whole turn, and no larger than its scale.
 -- Example: `cosine-near 15 (lit< tt) j : natAbs (cosine (quarterTable 15) j *ℤ pos (2 ^ 60) -ℤ cosine fine j *ℤ pos (2 ^ 15)) ≤ 2 ^ 59`.
 use mathlib.Core.Path.{_≡_, refl, sym, _∙_, ap}
 use mathlib.Core.List.{[], _∷_}

@@ -63,15 +63,15 @@ pos-inj h = ap natAbs h
 
 -- ---- an integer as the difference of two naturals, and so a normal form
 
-abbrev pub positive : ℤ → ℕ
-positive (pos n) = n
-positive (negsuc n) = zero
+abbrev pub positivePart : ℤ → ℕ
+positivePart (pos n) = n
+positivePart (negsuc n) = zero
 
-abbrev pub negative : ℤ → ℕ
-negative (pos n) = zero
-negative (negsuc n) = suc n
+abbrev pub negativePart : ℤ → ℕ
+negativePart (pos n) = zero
+negativePart (negsuc n) = suc n
 
-parts : (z : ℤ) → pos (positive z) ≡ z +ℤ pos (negative z)
+parts : (z : ℤ) → pos (positivePart z) ≡ z +ℤ pos (negativePart z)
 parts (pos n) = sym (+ℤ-idr (pos n))
 parts (negsuc n) = sym (+ℤ-invl (pos (suc n)))
 
@@ -89,24 +89,24 @@ module _ (Γ : List ℤ) where
 
   abbrev pub gained : Poly → ℕ
   gained none = zero
-  gained (term (pos c) m p) = c * positive (monomial m) + gained p
-  gained (term (negsuc c) m p) = suc c * negative (monomial m) + gained p
+  gained (term (pos c) m p) = c * positivePart (monomial m) + gained p
+  gained (term (negsuc c) m p) = suc c * negativePart (monomial m) + gained p
 
   abbrev pub lost : Poly → ℕ
   lost none = zero
-  lost (term (pos c) m p) = c * negative (monomial m) + lost p
-  lost (term (negsuc c) m p) = suc c * positive (monomial m) + lost p
+  lost (term (pos c) m p) = c * negativePart (monomial m) + lost p
+  lost (term (negsuc c) m p) = suc c * positivePart (monomial m) + lost p
 
   poly-parts : (p : Poly) → pos (gained p) ≡ value Γ p +ℤ pos (lost p)
   poly-parts none = refl
-  poly-parts (term (pos c) m p) = ap₂ (λ (s t : ℤ). pos c *ℤ s +ℤ t) (parts (monomial m) ∙ ap (λ (z : ℤ). z +ℤ pos (negative (monomial m))) (monomial-ok m)) (poly-parts p)
-      ∙ regroup (pos c) (product Γ m) (pos (negative (monomial m))) (value Γ p) (pos (lost p))
+  poly-parts (term (pos c) m p) = ap₂ (λ (s t : ℤ). pos c *ℤ s +ℤ t) (parts (monomial m) ∙ ap (λ (z : ℤ). z +ℤ pos (negativePart (monomial m))) (monomial-ok m)) (poly-parts p)
+      ∙ regroup (pos c) (product Γ m) (pos (negativePart (monomial m))) (value Γ p) (pos (lost p))
     where
       regroup : (c x n v l : ℤ) → c *ℤ (x +ℤ n) +ℤ (v +ℤ l) ≡ c *ℤ x +ℤ v +ℤ (c *ℤ n +ℤ l)
       regroup c x n v l = ring (c ∷ x ∷ n ∷ v ∷ l ∷ []) (search quotes) tt
-  poly-parts (term (negsuc c) m p) = ap (λ (t : ℤ). pos (suc c) *ℤ pos (negative (monomial m)) +ℤ t) (poly-parts p)
-      ∙ regroup (pos (suc c)) (product Γ m) (pos (negative (monomial m))) (value Γ p) (pos (lost p))
-      ∙ ap (λ (s : ℤ). negsuc c *ℤ product Γ m +ℤ value Γ p +ℤ (pos (suc c) *ℤ s +ℤ pos (lost p))) (sym (parts (monomial m) ∙ ap (λ (z : ℤ). z +ℤ pos (negative (monomial m))) (monomial-ok m)))
+  poly-parts (term (negsuc c) m p) = ap (λ (t : ℤ). pos (suc c) *ℤ pos (negativePart (monomial m)) +ℤ t) (poly-parts p)
+      ∙ regroup (pos (suc c)) (product Γ m) (pos (negativePart (monomial m))) (value Γ p) (pos (lost p))
+      ∙ ap (λ (s : ℤ). negsuc c *ℤ product Γ m +ℤ value Γ p +ℤ (pos (suc c) *ℤ s +ℤ pos (lost p))) (sym (parts (monomial m) ∙ ap (λ (z : ℤ). z +ℤ pos (negativePart (monomial m))) (monomial-ok m)))
     where
       regroup : (c x n v l : ℤ) → c *ℤ n +ℤ (v +ℤ l) ≡ negℤ c *ℤ x +ℤ v +ℤ (c *ℤ (x +ℤ n) +ℤ l)
       regroup c x n v l = ring (c ∷ x ∷ n ∷ v ∷ l ∷ []) (search quotes depth 40) tt

@@ -9,6 +9,7 @@ use lib.IntN.{ℤ, pos, negsuc, negℤ, natAbs, _+ℤ_, _-ℤ_, _*ℤ_}
 use lib.Signed.{mag}
 use Rattle.ints.specs.Quotient.{floor, rounded}
 use Rattle.ints.proofs.Ring.{ring, quotes, sub-zero}
+use Rattle.ints.proofs.Order.{eq-fact, eq-goal}
 use Rattle.ints.proofs.Abs.{abs-times, abs-zero}
 use Rattle.ints.proofs.Floor.{Rest, floor-exact, floor-rest, half-added-near}
 
@@ -67,27 +68,9 @@ rounded-halves h z x = let s = floor-rest x h z in let t = floor-rest (floor x h
 -- half of x, halves up, is what is left of x when its half, rounded down, is taken away
 pub half-left : (x : ℤ) → x -ℤ floor x 2 ≡ rounded 2 x
 unfolding rounded
-half-left x = let s = floor-rest x 2 (omega arith) in go x (floor x 2) (s .rest) (s .small) (s .whole)
-  where
-    even : (f : ℤ) → pos 2 *ℤ f +ℤ pos 0 -ℤ f ≡ f
-    even f = ring (f ∷ []) (search quotes depth 40) tt
-
-    odd : (f : ℤ) → pos 2 *ℤ f +ℤ pos 1 -ℤ f ≡ f +ℤ pos 1
-    odd f = ring (f ∷ []) (search quotes depth 40) tt
-
-    even-up : (f : ℤ) → pos 2 *ℤ f +ℤ pos 0 +ℤ pos 1 ≡ pos 2 *ℤ f +ℤ pos 1
-    even-up f = ring (f ∷ []) (search quotes depth 40) tt
-
-    odd-up : (f : ℤ) → pos 2 *ℤ f +ℤ pos 1 +ℤ pos 1 ≡ pos 2 *ℤ (f +ℤ pos 1) +ℤ pos 0
-    odd-up f = ring (f ∷ []) (search quotes depth 40) tt
-
-    go : (x f : ℤ) (b : ℕ) → b < 2 → x ≡ pos 2 *ℤ f +ℤ pos b → x -ℤ f ≡ floor (x +ℤ pos 1) 2
-    go x f zero j e = rw (e, even f, even-up f) (sym (floor-exact 2 f 1 (omega arith)))
-    go x f (suc zero) j e = rw (e, odd f, odd-up f) (sym (floor-exact 2 (f +ℤ pos 1) 0 (omega arith)))
-    go x f (suc (suc b)) j e = absurd (never b j)
-      where
-        never : (b : ℕ) → suc (suc b) < 2 → ⊥
-        never b j = omega arith
+half-left x = let s = floor-rest x 2 (omega arith) in let t = floor-rest (x +ℤ pos 1) 2 (omega arith) in
+    let Γ = x ∷ floor x 2 ∷ floor (x +ℤ pos 1) 2 ∷ pos (s .rest) ∷ pos (t .rest) ∷ [] in
+    eq-goal Γ (search quotes) (omega (arith, s .small, t .small, eq-fact Γ (s .whole) (search quotes), eq-fact Γ (t .whole) (search quotes)))
 
 -- ---- the divisors that no shift reaches: 1, and those above twice the size of x
 

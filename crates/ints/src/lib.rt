@@ -1,4 +1,4 @@
-// Whole numbers: the laws that later proofs cite (proofs/), and the rounded quotient.
+// Whole numbers: the laws that later proofs cite (proofs/), the rounded quotient and the absolute value.
 ghost use mathlib.Core.Path.{_≡_};
 ghost use Prim.Native.Nat.{_^_};
 ghost use lib.IntN.{natAbs};

@@ -21,7 +21,7 @@ SCALE-DIGITS = 15
 abbrev pub SCALE : ℕ
 SCALE = 2 ^ SCALE-DIGITS
 
--- the largest of the numbers m, m - 1, .., 1 with 2 to that power n, or 0 where there is none
+-- the P with 2^P = n, looked for from m down to 1, or 0 where there is none
 unfoldable pub exponent : ℕ → ℕ → ℕ
 exponent zero n = 0
 exponent (suc m) n = cond (eqb (2 ^ suc m) n) (suc m) (exponent m n)

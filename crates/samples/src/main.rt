@@ -1,4 +1,4 @@
-// The worked samples of document 01, run. What is printed is held to the file stdout, which comes from the document.
+// The worked samples of document 01, run. What is printed is held to the file stdout, which was worked by hand from the document.
 use libc::STDOUT_FILENO;
 use refusal::BlockKind;
 use refusal::KindAnswer;

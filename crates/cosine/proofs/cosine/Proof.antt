@@ -2,6 +2,7 @@
 use borrow.Author.Needs.{needs, sfits-of}
 use mathlib.Core.Path.{_≡_, sym, _∙_, ap}
 use Prim.Native.Nat.{ℕ, _-_, _≤_, _<_}
+use native.Mathlib.Omega.{arith}
 use lib.IntN.{pos, negℤ}
 use mir.Facts.{toZ-ofZ}
 use Rattle.cosine.specs.Cosine.{halfTurn, away, cosine}
@@ -9,14 +10,15 @@ use Rattle.cosine.proofs.Turn.{halfTurn-near, halfTurn-far}
 use Rattle.cosine.proofs.cosine.Statement.{statement}
 use Rattle.cosine.proofs.cosine.Tie as tie
 
-module _ (F : ℕ → ℕ) (step k : ℕ) (e : k ≡ away step) where
-  near : k ≤ 256 → pos (F k) ≡ cosine F step
+-- the entry i that is read, in the first quarter and in the second
+module _ (F : ℕ → ℕ) (step k i : ℕ) (e : k ≡ away step) where
+  near : k ≤ 256 → i ≡ k → pos (F i) ≡ cosine F step
   unfolding cosine
-  near h = sym (halfTurn-near F k h) ∙ ap (halfTurn F) e
+  near h j = ap (λ (x : ℕ). pos (F x)) j ∙ sym (halfTurn-near F k h) ∙ ap (halfTurn F) e
 
-  far : 256 < k → negℤ (pos (F (512 - k))) ≡ cosine F step
+  far : 256 < k → i ≡ 512 - k → negℤ (pos (F i)) ≡ cosine F step
   unfolding cosine
-  far h = sym (halfTurn-far F k h) ∙ ap (halfTurn F) e
+  far h j = ap (λ (x : ℕ). negℤ (pos (F x))) j ∙ sym (halfTurn-far F k h) ∙ ap (halfTurn F) e
 
 steps-away-requires : tie.Need-steps-away-requires
 steps-away-requires c κs = search needs
@@ -43,10 +45,10 @@ negative-requires : tie.Need-negative-requires
 negative-requires c κs = search needs
 
 returns : tie.Need-returns
-returns c = toZ-ofZ (sfits-of (c .positive .ok)) ∙ c .positive .ensures ∙ near _ _ _ (c .before .before .before .steps-away .ensures) (c .before .before .if1 .taken)
+returns c = toZ-ofZ (sfits-of (c .positive .ok)) ∙ c .positive .ensures ∙ near _ _ _ _ (c .before .before .before .steps-away .ensures) (c .before .before .if1 .taken) (omega arith)
 
 returns-2 : tie.Need-returns-2
-returns-2 c = toZ-ofZ (sfits-of (c .negative .ok)) ∙ c .negative .ensures ∙ far _ _ _ (c .before .before .before .steps-away .ensures) (c .before .before .if1 .left)
+returns-2 c = toZ-ofZ (sfits-of (c .negative .ok)) ∙ c .negative .ensures ∙ far _ _ _ _ (c .before .before .before .steps-away .ensures) (c .before .before .if1 .left) (omega arith)
 
 pub cosine-spec : {M : Type 1} → statement M
 cosine-spec =

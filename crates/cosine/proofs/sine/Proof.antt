@@ -9,12 +9,10 @@ use Rattle.cosine.proofs.Turn.{cosine-periodic}
 use Rattle.cosine.proofs.sine.Statement.{statement}
 use Rattle.cosine.proofs.sine.Tie as tie
 
-back : (F : ℕ → ℕ) (step : ℕ) → cosine F (step % 1024 + 768) ≡ sine F step
+-- m turns on from i are 768 steps on from the step
+back : (F : ℕ → ℕ) (i step m : ℕ) → i + m * 1024 ≡ step + 768 → cosine F i ≡ sine F step
 unfolding sine
-back F step = sym (cosine-periodic F (step % 1024 + 768) (step / 1024)) ∙ ap (cosine F) whole
-  where
-    whole : step % 1024 + 768 + step / 1024 * 1024 ≡ step + 768
-    whole = omega arith
+back F i step m e = sym (cosine-periodic F i m) ∙ ap (cosine F) e
 
 add-cosine : tie.Need-add-cosine
 add-cosine c = search needs
@@ -23,7 +21,7 @@ cosine-requires : tie.Need-cosine-requires
 cosine-requires c κs = search needs
 
 returns : tie.Need-returns
-returns c = toZ-ofZ (sfits-of (c .cosine .ok)) ∙ c .cosine .ensures ∙ back _ (c .before .args .step)
+returns c = toZ-ofZ (sfits-of (c .cosine .ok)) ∙ c .cosine .ensures ∙ back _ _ (c .before .args .step) (c .before .args .step / 1024) (omega arith)
 
 pub sine-spec : {M : Type 1} → statement M
 sine-spec = tie.close (tie.spec add-cosine cosine-requires returns)

@@ -56,7 +56,7 @@ cast-result-2 c = let f = c .before .fits .x in
 
 returns : tie.Need-returns
 returns c = let n = negative _ (c .before .fits .x) (rw (toZ-ofZ (c .before .fits .x)) at (c .if1 .taken)) in
-    rw (toZ-ofZ (c .before .fits .x), back _ n) (sym (n .size))
+    rw (toZ-ofZ (c .before .fits .x), back _ n) (omega (arith, n .size))
 
 returns-2 : tie.Need-returns-2
 returns-2 c = search needs

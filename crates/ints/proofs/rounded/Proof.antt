@@ -1,10 +1,14 @@
 -- `rounded` is right because the quotient by half the divisor, rounded down, halves to the rounded quotient (`rounded-halves`).
 use borrow.Author.Needs.{needs, sfits-of}
-use mathlib.Core.Path.{sym, _∙_, ap}
-use Prim.Native.Nat.{ℕ, _-_, _^_}
+use mathlib.Core.Path.{_≡_, sym, _∙_, ap}
+use Prim.Native.Nat.{ℕ, _-_, _*_, _^_, _<_}
 use native.Mathlib.Omega.{arith}
+use lib.IntN.{ℤ}
 use lib.Pow.{pow-pos, pow-mono}
+use lib.Signed.{shrZ}
 use mir.Facts.{toZ-ofZ}
+use mir.Syntax.{w64}
+use mir.Val.{SFits, toZ, ofZ}
 use Rattle.ints.specs.Quotient.{rounded}
 use Rattle.ints.proofs.Powers.{two-pow-pred}
 use Rattle.ints.proofs.Floor.{shift-is-floor}
@@ -12,6 +16,11 @@ use Rattle.ints.proofs.Rounding.{rounded-halves, rounded-by-one, rounde
 use Rattle.ints.proofs.Fit.{fits-shift}
 use Rattle.ints.proofs.rounded.Statement.{statement}
 use Rattle.ints.proofs.rounded.Tie as tie
+
+-- what the machine reads of x shifted by h, halved, where the divisor d is 2 h
+through : (x r : ℤ) (h d : ℕ) → SFits w64 x → r ≡ rounded 2 (toZ w64 (ofZ w64 (shrZ (toZ w64 (ofZ w64 x)) h))) → 0 < h → 2 * h ≡ d → r ≡ rounded d x
+through x r h d f k z e = k ∙ ap (λ (y : ℤ). rounded 2 (toZ w64 (ofZ w64 (shrZ y h)))) (toZ-ofZ f)
+    ∙ ap (rounded 2) (toZ-ofZ (fits-shift x h f) ∙ shift-is-floor x h) ∙ rounded-halves h z x ∙ ap (λ (n : ℕ). rounded n x) e
 
 returns : tie.Need-returns
 returns c = rw (c .if1 .taken) (toZ-ofZ (c .before .fits .x) ∙ sym (rounded-by-one (c .before .args .x)))
@@ -34,9 +43,8 @@ halved-requires : tie.Need-halved-requires
 halved-requires c κs = search needs
 
 returns-3 : tie.Need-returns-3
-returns-3 c = let a = c .before .before .before .args in let f = c .before .before .before .fits .x in let h = 2 ^ (a .digits - 1) in
-    toZ-ofZ (sfits-of (c .halved .ok)) ∙ simp (toZ-ofZ, f, fits-shift (a .x) h f) at (c .halved .ensures)
-    ∙ ap (rounded 2) (shift-is-floor (a .x) h) ∙ rounded-halves h (pow-pos (a .digits - 1)) (a .x) ∙ ap (λ (d : ℕ). rounded d (a .x)) (sym (two-pow-pred (a .digits) (omega arith)))
+returns-3 c = let a = c .before .before .before .args in toZ-ofZ (sfits-of (c .halved .ok))
+    ∙ through (a .x) _ _ (2 ^ a .digits) (c .before .before .before .fits .x) (c .halved .ensures) (pow-pos _) (omega (arith, two-pow-pred (a .digits) (omega arith)))
 
 pub rounded-spec : {M : Type 1} → statement M
 rounded-spec = tie.close (tie.spec returns returns-2 sub-halved cast-halved shr-halved halved-requires returns-3)
