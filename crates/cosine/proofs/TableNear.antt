@@ -3,7 +3,7 @@
 use mathlib.Core.Path.{_≡_, refl, sym, _∙_, ap}
 use mathlib.Core.List.{[], _∷_}
 use Prim.Native.Nat.{ℕ, suc, _+_, _*_, _-_, _/_, _^_, _≤_, _<_}
-use native.Mathlib.Nat.{mul-le-mul-left, div-lt-iff-lt-mul}
+use native.Mathlib.Nat.{mul-le-mul-left, div-lt-iff-lt-mul, div-eq-of-lt}
 use native.Mathlib.Omega.{arith}
 use lib.IntN.{ℤ, pos, negℤ, natAbs, _-ℤ_, _*ℤ_}
 use lib.Pow.{pow-pos, pow-add}
@@ -14,6 +14,7 @@ use Rattle.ints.proofs.Floor.{floor-pos, half-added-near}
 use Rattle.ints.proofs.Rounding.{multiple-zero}
 use Rattle.cosine.specs.Cosine.{cosine, sine, fine, quarterTable}
 use Rattle.cosine.proofs.Turn.{over-cosine, over-sine}
+use Rattle.cosine.proofs.HalfAngle.{fine-end}
 use Rattle.cosine.proofs.FineQuarter.{quarter-size}
 use Rattle.cosine.proofs.FineTurn.{quarterUnit, cosine-quarters, sine-quarters}
 
@@ -55,6 +56,11 @@ module _ (s : ℕ) (fits : s < 60) where
   table-is : (j : ℕ) → quarterTable s j ≡ nearest (2 ^ (59 - s)) (pow-pos (59 - s)) (fine j)
   unfolding quarterTable nearest
   table-is j = rw half refl
+
+  -- the last number is 0, so that the table's turn is odd about 256
+  pub table-end : quarterTable s 256 ≡ 0
+  unfolding quarterTable
+  table-end = rw (half, fine-end) (div-eq-of-lt (omega (arith, pow-pos (59 - s))))
 
   -- ---- near the fine cosines
 

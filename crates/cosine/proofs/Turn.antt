@@ -148,6 +148,13 @@ module _ (F : ℕ → ℕ) (end : F 256 ≡ 0) where
   unfolding cosine
   cosine-half j = ap (halfTurn F) (away-half j) ∙ halfTurn-odd (away j) (omega arith)
 
+  pub sine-half : (j : ℕ) → sine F (j + 512) ≡ negℤ (sine F j)
+  unfolding sine
+  sine-half j = ap (cosine F) (on j) ∙ cosine-half (j + 768)
+    where
+      on : (j : ℕ) → j + 512 + 768 ≡ j + 768 + 512
+      on j = omega arith
+
   -- a quarter turn on
   pub cosine-quarter : (j : ℕ) → cosine F (j + 256) ≡ negℤ (sine F j)
   unfolding sine

@@ -1,5 +1,6 @@
 -- What fits a signed 64-bit number, by its absolute value.
--- Example: `fits z h : SFits w64 z`, with h : natAbs z < 2 ^ 63; the machine's bits of such a z read back as z (`toZ-ofZ`).
+-- Example: `fits z h : SFits w64 z`, with h : natAbs z < 2 ^ 63; the machine's bits of such a z read back as z (`reads-back`).
+use mathlib.Core.Path.{_≡_}
 use mathlib.Core.List.{[], _∷_}
 use Prim.Native.Nat.{ℕ, suc, _/_, _≤_, _<_, _^_}
 use native.Mathlib.Nat.{div-le-self}
@@ -7,7 +8,8 @@ use native.Mathlib.Omega.{arith}
 use lib.IntN.{ℤ, pos, negsuc, negℤ, natAbs, _-ℤ_}
 use lib.Signed.{mag, mag-shr, shrZ}
 use mir.Syntax.{w64}
-use mir.Val.{SFits}
+use mir.Val.{SFits, toZ, ofZ}
+use mir.Facts.{toZ-ofZ}
 use Rattle.ints.proofs.Ring.{quotes}
 use Rattle.ints.proofs.Abs.{abs-fact}
 
@@ -19,6 +21,9 @@ mag-le (negsuc n) = omega arith
 
 pub fits : (z : ℤ) → natAbs z < 2 ^ 63 → SFits w64 z
 fits z h = record { sfits = omega (arith, mag-le z) }
+
+pub reads-back : (z : ℤ) (b : ℕ) → b < 2 ^ 63 → natAbs z ≤ b → toZ w64 (ofZ w64 z) ≡ z
+reads-back z b k h = toZ-ofZ (fits z (omega arith))
 
 pub fits-abs : (z : ℤ) → SFits w64 z → natAbs z ≤ 2 ^ 63
 fits-abs (pos n) h = omega arith

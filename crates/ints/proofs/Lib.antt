@@ -8,3 +8,4 @@ pub mod Rounding
 pub mod Sums
 pub mod Fit
 pub mod Tables
+pub mod Filling

@@ -1,0 +1,33 @@
+-- A list that a loop fills from the front with a function's values.
+-- Example: `filled-next d f xs n x h e F : Filled d f (n + 1) (set xs n x)`, with h : n < length xs, e : x ≡ f n and F : Filled d f n xs.
+use mathlib.Core.Path.{_≡_, sym, _∙_, subst}
+use mathlib.Core.List.{List}
+use Prim.Native.Nat.{ℕ, _+_, _<_}
+use native.Mathlib.Nat.{lt-irrefl}
+use native.Mathlib.Omega.{arith}
+use borrow.Author.Count.{below-more}
+use lib.ListN.{length, getD, set}
+use lib.Seq.{getD-set-same, getD-set-other, ext-getD}
+use Rattle.ints.specs.Tabulate.{tabulate, Filled}
+use Rattle.ints.proofs.Tables.{getD-tabulate, length-tabulate}
+
+module _ {A : Type 0} (d : A) (f : ℕ → A) where
+  pub filled-none : (xs : List A) → Filled d f 0 xs
+  filled-none xs i h = absurd (never h)
+    where
+      never : i < 0 → ⊥
+      never h = omega arith
+
+  -- entries other than the one that is set
+  other : (xs : List A) (n : ℕ) (x : A) (i : ℕ) → i < n → getD (set xs n x) i d ≡ getD xs i d
+  other xs n x i h = getD-set-other xs n i x d (λ e. lt-irrefl n (subst (λ (m : ℕ). m < n) e h))
+
+  pub filled-next : (xs : List A) (n : ℕ) (x : A) → n < length xs → x ≡ f n → Filled d f n xs → Filled d f (n + 1) (set xs n x)
+  filled-next xs n x h e F = below-more (λ i. getD (set xs n x) i d ≡ f i) n (λ i k. other xs n x i k ∙ F i k) (getD-set-same xs n x d h ∙ e)
+
+  -- an entry further on does not matter
+  pub filled-still : (xs : List A) (n k : ℕ) (x : A) → n < k + 1 → Filled d f n xs → Filled d f n (set xs k x)
+  filled-still xs n k x h F i l = other xs k x i (omega arith) ∙ F i l
+
+  pub filled-all : (xs : List A) (n : ℕ) → length xs ≡ n → Filled d f n xs → xs ≡ tabulate n f
+  filled-all xs n e F = ext-getD d xs (tabulate n f) (e ∙ sym (length-tabulate n f)) (λ i h. let k : i < n = omega arith in F i k ∙ sym (getD-tabulate n f d i k))

@@ -1,0 +1,12 @@
+pub mod Reversal
+pub mod Stages
+pub mod Pairs
+pub mod EvenOdd
+pub mod Step
+pub mod DirectSplit
+pub mod Nearest
+pub mod OneLevel
+pub mod Distance
+pub mod Magnitude
+pub mod FirstLine
+pub mod Demand3

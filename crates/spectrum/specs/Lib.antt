@@ -1,0 +1,3 @@
+pub mod Levels
+pub mod Spectrum
+pub mod Distance
