@@ -15,6 +15,11 @@ reversed-suc : (P t : ℕ) → reversed (suc P) t ≡ t % 2 * 2 ^ P + reversed P
 unfolding reversed
 reversed-suc P t = refl
 
+pub reversed-zero : (P : ℕ) → reversed P 0 ≡ 0
+unfolding reversed
+reversed-zero zero = refl
+reversed-zero (suc P) = omega (arith, reversed-zero P)
+
 pub reversed-lt : (P t : ℕ) → reversed P t < 2 ^ P
 unfolding reversed
 reversed-lt zero t = omega arith

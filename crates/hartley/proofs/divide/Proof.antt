@@ -1,0 +1,118 @@
+-- `divide` is right because after i rounds the first i cells are divided and the others are as they were.
+use borrow.Author.Needs.{needs, sfits-of}
+use mathlib.Core.Path.{_≡_, refl, sym, _∙_, ap}
+use mathlib.Core.List.{List, [], _∷_, map}
+use Prim.Native.Nat.{ℕ, zero, suc, _+_, _-_, _^_, _≤_, _<_}
+use native.Mathlib.Nat.{le-of-suc-le-suc}
+use native.Mathlib.Omega.{arith}
+use lib.IntN.{ℤ, pos}
+use lib.ListN.{length, set, length-set, length-map}
+use lib.Seq.{ext-getD, getD-set-other}
+use lib.Signed.{mag}
+use mir.Facts.{toZ-ofZ}
+use mir.Syntax.{w64}
+use mir.Val.{toZ, ofZ}
+use Rattle.ints.specs.Quotient.{rounded}
+use Rattle.ints.specs.Tabulate.{Filled}
+use Rattle.ints.proofs.Filling.{filled-next}
+use Rattle.spectrum.specs.Levels.{cell}
+use Rattle.hartley.proofs.divide.Statement.{statement}
+use Rattle.hartley.proofs.divide.Tie as tie
+
+cell-map : (f : ℤ → ℤ) (xs : List ℤ) (k : ℕ) → k < length xs → cell (map f xs) k ≡ f (cell xs k)
+cell-map f [] k h = absurd (never h)
+  where
+    never : k < 0 → ⊥
+    never h = omega arith
+cell-map f (x ∷ xs) zero h = refl
+cell-map f (x ∷ xs) (suc k) h = cell-map f xs k (le-of-suc-le-suc h)
+
+-- the first i cells of xs are those of ys mapped by f, the others are those of ys
+record Mapped (f : ℤ → ℤ) (ys xs : List ℤ) (i : ℕ) : Type 0 where
+  long : length xs ≡ length ys
+  new : Filled (pos 0) (λ k. f (cell ys k)) i xs
+  old : (k : ℕ) → i ≤ k → cell xs k ≡ cell ys k
+
+mapped-none : (f : ℤ → ℤ) (ys : List ℤ) (i : ℕ) → i ≤ 0 → Mapped f ys ys i
+mapped-none f ys i z = record { long = refl; new = λ k h. absurd (omega arith); old = λ k h. refl }
+
+-- x, which is f of cell j, is written to cell k, and the next round is n
+mapped-next : (f : ℤ → ℤ) (ys xs : List ℤ) (i j k n : ℕ) (x : ℤ) → i < length xs → x ≡ f (cell xs j) → j ≡ i → k ≡ i → n ≡ i + 1
+    → Mapped f ys xs i → Mapped f ys (set xs k x) n
+mapped-next f ys xs i j k n x h e ej ek en m = rw (ek, en)
+    (record {
+      long = length-set xs i x ∙ m .long;
+      new = filled-next (pos 0) _ xs i x h (e ∙ ap (λ (y : ℕ). f (cell xs y)) ej ∙ ap f (m .old i (omega arith))) (m .new);
+      old = λ l g. getD-set-other xs i l x (pos 0) (later l g) ∙ m .old l (omega arith);
+    })
+  where
+    later : (l : ℕ) → i + 1 ≤ l → l ≡ i → ⊥
+    later l g e = omega arith
+
+mapped-all : (f : ℤ → ℤ) (ys xs : List ℤ) (i : ℕ) → length xs ≤ i → Mapped f ys xs i → xs ≡ map f ys
+mapped-all f ys xs i h m =
+    ext-getD (pos 0) xs (map f ys) (m .long ∙ sym (length-map ys f)) (λ k l. m .new k (omega arith) ∙ sym (cell-map f ys k (omega (arith, m .long))))
+
+-- what is written: q, the quotient by d, where d is the divisor asked for
+written : (d : ℕ) (q x : ℤ) (divisor : ℕ) → mag q < 2 ^ 63 → mag x < 2 ^ 63 → q ≡ rounded d (toZ w64 (ofZ w64 x)) → d ≡ divisor
+    → toZ w64 (ofZ w64 q) ≡ rounded divisor x
+written d q x divisor f g e k = toZ-ofZ (sfits-of f) ∙ e ∙ ap (rounded d) (toZ-ofZ (sfits-of g)) ∙ ap (λ (n : ℕ). rounded n x) k
+
+abbrev Inv-loop : tie.InvT-loop
+Inv-loop cells₀ p i₀ cells i = Mapped (rounded (2 ^ p)) cells₀ cells i
+
+abbrev μ-loop : tie.MeasureT-loop
+μ-loop cells₀ p i₀ cells i = length cells - i
+
+loop-holds : tie.Need-loop-holds Inv-loop μ-loop
+loop-holds c = mapped-none _ _ _ (omega arith)
+
+mul-rounded : tie.Need-mul-rounded Inv-loop μ-loop
+mul-rounded c = search needs
+
+slice-copy-out-rounded : tie.Need-slice-copy-out-rounded Inv-loop μ-loop
+slice-copy-out-rounded c = search needs
+
+rounded-requires : tie.Need-rounded-requires Inv-loop μ-loop
+rounded-requires c κs = search needs
+
+mul-t9 : tie.Need-mul-t9 Inv-loop μ-loop
+mul-t9 c = search needs
+
+slice-set-from-cells : tie.Need-slice-set-from-cells Inv-loop μ-loop
+slice-set-from-cells c = search needs
+
+add-i : tie.Need-add-i Inv-loop μ-loop
+add-i c = omega arith
+
+loop-less : tie.Need-loop-less Inv-loop μ-loop
+loop-less c = simp length-set (omega arith)
+
+loop-again : tie.Need-loop-again Inv-loop μ-loop
+loop-again c = let a = c .before .before .before .loop in
+    mapped-next _ _ (a .cells) (a .i) _ _ _ _ (omega arith)
+    (written _ _ _ _ (c .rounded .ok) (c .before .rounded-arg .given) (c .rounded .ensures) (omega arith)) (omega arith) (omega arith) (omega arith) (a .inv)
+
+same-length : tie.Need-same-length Inv-loop μ-loop
+same-length c = c .before .loop .inv .long
+
+returns : tie.Need-returns Inv-loop μ-loop
+returns c = let a = c .before .loop in mapped-all _ _ (a .cells) (a .i) (omega arith) (a .inv)
+
+pub divide-spec : {M : Type 1} → statement M
+divide-spec =
+    tie.close
+    (tie.spec
+    Inv-loop
+    μ-loop
+    loop-holds
+    mul-rounded
+    slice-copy-out-rounded
+    rounded-requires
+    mul-t9
+    slice-set-from-cells
+    add-i
+    loop-less
+    loop-again
+    same-length
+    returns)

@@ -1,0 +1,50 @@
+-- `products` is right because no product is above 2^55 in magnitude, so nothing overflows and the machine's sum is the exact one.
+use borrow.Author.Needs.{needs}
+use mathlib.Core.List.{[], _∷_}
+use Prim.Native.Nat.{_^_, _≤_}
+use native.Mathlib.Nat.{mul-le-mul}
+use native.Mathlib.Omega.{arith}
+use lib.IntN.{ℤ, _+ℤ_, _*ℤ_, natAbs}
+use mir.Facts.{toZ-ofZ}
+use mir.Syntax.{w64}
+use mir.Val.{SFits}
+use Rattle.ints.proofs.Ring.{quotes, ring}
+use Rattle.ints.proofs.Abs.{abs-plus, abs-times}
+use Rattle.ints.proofs.Fit.{fits}
+use Rattle.refusal.specs.BlockKinds.{SCALE}
+use Rattle.hartley.proofs.products.Statement.{statement}
+use Rattle.hartley.proofs.products.Tie as tie
+
+-- a cell and a cosine or sine
+product-size : (x y : ℤ) → natAbs x ≤ 2 ^ 40 → natAbs y ≤ SCALE → natAbs (x *ℤ y) ≤ 2 ^ 55
+product-size x y h k = omega (arith, abs-times x y, mul-le-mul h k)
+
+product-fits : (x y : ℤ) → natAbs x ≤ 2 ^ 40 → natAbs y ≤ SCALE → SFits w64 (x *ℤ y)
+product-fits x y h k = fits (x *ℤ y) (omega (arith, product-size x y h k))
+
+sum-size : (x y u v : ℤ) → natAbs x ≤ 2 ^ 40 → natAbs y ≤ SCALE → natAbs u ≤ 2 ^ 40 → natAbs v ≤ SCALE → natAbs (x *ℤ y +ℤ u *ℤ v) ≤ 2 ^ 56
+sum-size x y u v hx hy hu hv = omega (arith, abs-plus (x *ℤ y) (u *ℤ v), product-size x y hx hy, product-size u v hu hv)
+
+sum-fits : (x y u v : ℤ) → natAbs x ≤ 2 ^ 40 → natAbs y ≤ SCALE → natAbs u ≤ 2 ^ 40 → natAbs v ≤ SCALE → SFits w64 (x *ℤ y +ℤ u *ℤ v)
+sum-fits x y u v hx hy hu hv = fits (x *ℤ y +ℤ u *ℤ v) (omega (arith, sum-size x y u v hx hy hu hv))
+
+mul-result : tie.Need-mul-result
+mul-result c = search (needs, product-fits)
+
+mul-result-2 : tie.Need-mul-result-2
+mul-result-2 c = search (needs, product-fits)
+
+add-result : tie.Need-add-result
+add-result c = search (needs, product-fits, sum-fits)
+
+returns : tie.Need-returns
+returns c = let a = c .args in let f = c .fits in
+    let hb : natAbs (a .b) ≤ 2 ^ 40 = c .pre .0 in
+    let hm : natAbs (a .mirror) ≤ 2 ^ 40 = c .pre .1 in
+    let hc : natAbs (a .cosine) ≤ SCALE = c .pre .2 in
+    let hs : natAbs (a .sine) ≤ SCALE = c .pre .3 in
+    simp (toZ-ofZ (f .b), toZ-ofZ (f .mirror), toZ-ofZ (f .cosine), toZ-ofZ (f .sine), toZ-ofZ, product-fits, sum-fits)
+    (ring (a .b ∷ a .mirror ∷ a .cosine ∷ a .sine ∷ []) (search quotes) tt, search sum-size)
+
+pub products-spec : {M : Type 1} → statement M
+products-spec = tie.close (tie.spec mul-result mul-result-2 add-result returns)

@@ -1,0 +1,145 @@
+-- `run_levels` is right because after each round the cells are those after one more level, and halves and stride fit the next one.
+use borrow.Author.Needs.{needs}
+use mathlib.Core.Path.{_≡_, refl, sym, _∙_, ap, ap₂, subst}
+use mathlib.Core.List.{List}
+use Prim.Native.Nat.{ℕ, suc, _+_, _*_, _-_, _/_, _≤_, _<_, _^_}
+use native.Mathlib.Numerals.{add-one}
+use native.Mathlib.Nat.{one-mul, sub-zero}
+use native.Mathlib.Omega.{arith}
+use lib.IntN.{ℤ}
+use lib.ListN.{length}
+use lib.Pow.{pow-pos, pow-add, pow-mono}
+use denote.Ref.{now}
+use Rattle.ints.proofs.Tables.{length-tabulate}
+use Rattle.ints.proofs.Powers.{two-pow}
+use Rattle.refusal.specs.BlockKinds.{TURN}
+use Rattle.cosine.specs.Cosine.{cosine, sine}
+use Rattle.spectrum.specs.Levels.{levels}
+use Rattle.spectrum.proofs.Pairs.{whole-steps}
+use Rattle.spectrum.proofs.Stages.{length-levels}
+use Rattle.spectrum.proofs.Distance.{whole-turn}
+use Rattle.hartley.specs.Workers.{levelInForce, levelsInForce, turned, Joins, Within}
+use Rattle.hartley.proofs.run_levels.Statement.{statement}
+use Rattle.hartley.proofs.run_levels.Tie as tie
+use Rattle.hartley.proofs.run_levels.Reads as reads
+use Rattle.hartley.proofs.run_levels.Lts as lts
+use Rattle.hartley.proofs.copy.Reads as copy-reads
+use Rattle.hartley.proofs.join_level.Reads as join-level-reads
+
+abbrev Inv-loop : tie.InvT-loop
+Inv-loop cells₀ kept₀ cosines sines p half₀ stride₀ level₀ cells kept half stride level =
+    (level ≤ p) × (half ≡ 2 ^ level) × (stride ≡ 2 ^ (p - level) / 2) × (cells ≡ levelsInForce level cells₀) × (length kept ≡ 2 ^ p)
+
+abbrev μ-loop : tie.MeasureT-loop
+μ-loop cells₀ kept₀ cosines sines p half₀ stride₀ level₀ cells kept half stride level = p - level
+
+-- ---- halves and stride of the level after `level` levels, over plain numbers
+
+-- half the cells from this level on
+rest : (p level : ℕ) → level < p → 2 ^ (p - level) ≡ 2 * 2 ^ (p - suc level)
+rest p level h = ap (λ (x : ℕ). 2 ^ x) up ∙ two-pow (p - suc level)
+  where
+    up : p - level ≡ suc (p - suc level)
+    up = omega arith
+
+all-cells : (p level : ℕ) → level < p → 2 ^ p ≡ 2 ^ (p - suc level) * (2 * 2 ^ level)
+all-cells p level h = ap (λ (x : ℕ). 2 ^ x) sum ∙ pow-add 2 (p - suc level) (suc level) ∙ ap (λ (x : ℕ). 2 ^ (p - suc level) * x) (two-pow level)
+  where
+    sum : p ≡ p - suc level + suc level
+    sum = omega arith
+
+turn-in-steps : (p : ℕ) → p ≤ 10 → 2 ^ p * (TURN / 2 ^ p) ≡ TURN
+turn-in-steps p few = ap (λ (x : ℕ). 2 ^ p * x) (ap (λ (x : ℕ). x / 2 ^ p) (sym (one-mul TURN)) ∙ whole-steps (2 ^ p) (2 ^ (10 - p)) 1 (pow-pos p) (whole-turn p few) ∙ one-mul (2 ^ (10 - p))) ∙ whole-turn p few
+
+joins : (p level : ℕ) → p ≤ 10 → level < p → (half stride : ℕ) (xs cosines sines : List ℤ) → half ≡ 2 ^ level → stride ≡ 2 ^ (p - level) / 2 → length xs ≡ 2 ^ p →
+    cosines ≡ turned cosine (2 ^ p) → sines ≡ turned sine (2 ^ p) → Within (2 ^ 40) xs → Joins half stride xs cosines sines
+joins p level few h half stride xs cosines sines eh es long hc hs quiet =
+    let r = all-cells p level h in let t : stride ≡ 2 ^ (p - suc level) = omega (arith, rest p level h) in
+    record {
+      some = rw eh (pow-pos level);
+      pairs = 2 ^ (p - suc level);
+      whole = rw (long, eh) r;
+      strides = rw (long, eh, t) (omega (arith, r));
+      turn = rw long (turn-in-steps p few);
+      at-cosines = rw long hc;
+      at-sines = rw long hs;
+      quiet = quiet;
+    }
+
+as-many : (L : ℕ) (xs : List ℤ) → length (levelsInForce L xs) ≡ length xs
+as-many = length-levels _ _ _
+
+next-level : (L half : ℕ) (xs kept ys : List ℤ) → ys ≡ levelInForce half kept → half ≡ 2 ^ L → kept ≡ levelsInForce L xs → ys ≡ levelsInForce (L + 1) xs
+unfolding levels
+next-level L half xs kept ys e f g = rw (add-one L) (e ∙ ap₂ levelInForce f g)
+
+-- src/lib.rt:151:5
+loop-holds : tie.Need-loop-holds Inv-loop μ-loop
+unfolding levels
+loop-holds c = let q = c .pre in (omega arith, refl, ap length (q .3) ∙ length-tabulate (2 ^ c .args .p / 2) _ ∙ ap (λ (x : ℕ). 2 ^ x / 2) (sym (sub-zero (c .args .p))), refl, q .2)
+
+-- src/lib.rt:152:9
+copy-requires : tie.Need-copy-requires Inv-loop μ-loop
+copy-requires c κs = let l = c .before .before .before .loop .inv in let s = c .before .before .before .before in l .4 ∙ sym (ap length (l .3) ∙ as-many _ _ ∙ s .pre .1)
+
+-- src/lib.rt:153:9
+join-level-requires : tie.Need-join-level-requires Inv-loop μ-loop
+join-level-requires c κs = let l = c .before .before .before .before .before .before .before .loop in let s = c .before .before .before .before .before .before .before .before in let e = c .before .before .before .copy .ensures in
+    let long = ap length (l .inv .3) ∙ as-many _ _ ∙ s .pre .1 in (
+      joins (s .args .p) (l .level) (s .pre .0) (omega arith) (l .half) (l .stride) _ _ _ (l .inv .1) (l .inv .2) (ap length e ∙ long) (s .pre .3) (s .pre .4)
+          (subst (Within (2 ^ 40)) (sym (e ∙ l .inv .3)) (s .pre .5 (l .level) (l .inv .0))),
+      sym (ap length e),
+    )
+
+-- src/lib.rt:154:16
+mul-half : tie.Need-mul-half Inv-loop μ-loop
+mul-half c = let l = c .before .before .before .before .before .before .before .before .before .loop in omega (arith, l .inv .1, pow-mono {i = l .level} {j = 10} (omega (arith, c .before .before .before .before .before .before .before .before .before .before .pre .0)))
+
+-- src/lib.rt:156:9
+add-level : tie.Need-add-level Inv-loop μ-loop
+add-level c = omega (arith, c .before .before .before .before .before .before .before .before .before .before .pre .0)
+
+-- src/lib.rt:151:5
+loop-less : tie.Need-loop-less Inv-loop μ-loop
+loop-less c = omega arith
+
+-- src/lib.rt:151:5
+loop-again : tie.Need-loop-again Inv-loop μ-loop
+loop-again c = let l = c .before .before .before .before .before .before .before .before .before .loop in let s = c .before .before .before .before .before .before .before .before .before .before in let k = c .before .before .before .before .before .copy .ensures in let j = c .before .join-level .ensures in
+    let below : l .level < s .args .p = omega arith in (
+      omega arith,
+      rw (add-one (l .level)) (omega (arith, l .inv .1, two-pow (l .level))),
+      rw (add-one (l .level)) (omega (arith, l .inv .2, rest (s .args .p) (l .level) below)),
+      next-level (l .level) (l .half) (now (s .args .cells)) _ _ j (l .inv .1) (k ∙ l .inv .3),
+      ap length (k ∙ l .inv .3) ∙ as-many (l .level) (now (s .args .cells)) ∙ s .pre .1,
+    )
+
+-- src/lib.rt:144:1
+same-length : tie.Need-same-length Inv-loop μ-loop
+same-length c = ap length (c .before .loop .inv .3) ∙ as-many _ _
+
+-- src/lib.rt:144:1
+same-length-2 : tie.Need-same-length-2 Inv-loop μ-loop
+same-length-2 c = c .before .loop .inv .4 ∙ sym (c .before .before .pre .2)
+
+-- src/lib.rt:144:1
+returns : tie.Need-returns Inv-loop μ-loop
+returns c = let l = c .before .loop in let s = c .before .before in let e : l .level ≡ s .args .p = omega (arith, l .inv .0) in
+    l .inv .3 ∙ ap (λ (k : ℕ). levelsInForce k (now (s .args .cells))) e
+
+pub run-levels-spec : {M : Type 1} → statement M
+run-levels-spec =
+    tie.close
+    (tie.spec
+    Inv-loop
+    μ-loop
+    loop-holds
+    copy-requires
+    join-level-requires
+    mul-half
+    add-level
+    loop-less
+    loop-again
+    same-length
+    same-length-2
+    returns)

@@ -1,0 +1,237 @@
+// The engine: the forward and the backward spectrum of a block, in its own cells (document 01, Levels).
+use refusal::BlockKind;
+use refusal::KindAnswer;
+use refusal::Refusal;
+ghost use mathlib.Core.Path.{_≡_};
+ghost use mathlib.Core.List.{map};
+ghost use Prim.Native.Nat.{ℕ, _+_, _*_, _/_, _^_, _≤_, _<_};
+ghost use lib.IntN.{negℤ, pos, _+ℤ_, _*ℤ_, natAbs};
+ghost use lib.ListN.{length};
+ghost use Rattle.ints.specs.Quotient.{rounded};
+ghost use Rattle.ints.specs.Sum.{sum};
+ghost use Rattle.ints.specs.Tabulate.{Filled};
+ghost use Rattle.refusal.specs.BlockKinds.{SCALE};
+ghost use Rattle.cosine.specs.Cosine.{cosine, sine};
+ghost use Rattle.spectrum.specs.Levels.{cell, permuted};
+ghost use Rattle.spectrum.specs.Spectrum.{backward, forward};
+ghost use Rattle.spectrum.specs.Distance.{WithinE};
+ghost use Rattle.hartley.specs.Calls.{answer, asSpectrum, left, notLoud, sampled, tested};
+ghost use Rattle.hartley.specs.Workers.{Joins, joinedCell, levelInForce, levelsInForce, Ready, turned, Within};
+ghost use Rattle.hartley.specs.declared.Answer.the-variants.{Done};
+
+// What a call on a block answers.
+pub enum Answer {
+    Done,
+    Refused(Refusal),
+}
+
+// The forward spectrum of a block of samples, which it replaces.
+pub fn forward(cells: &mut [i64]) -> Answer
+    ensures answer { λ r. ⌜ r ≡ answer (sampled (now (cells .entry))) ⌝ }
+    ensures cells { λ _. ⌜ now (cells .exit) ≡ left forward (now (cells .entry)) (sampled (now (cells .entry))) ⌝ }
+    ensures distance { λ r. ⌜ (r ≡ Done → (P : ℕ) → length (now (cells .entry)) ≡ 2 ^ P → WithinE P (now (cells .entry)) (now (cells .exit))) ⌝ }
+    ensures first_line { λ r. ⌜ (r ≡ Done → cell (now (cells .exit)) 0 ≡ sum (length (now (cells .entry))) (cell (now (cells .entry)))) ⌝ }
+{
+    match tested(cells, -32768, 32767) {
+        KindAnswer::Refused(refusal) => Answer::Refused(refusal),
+        KindAnswer::Taken(kind) => {
+            transform(cells, kind.p);
+            Answer::Done
+        }
+    }
+}
+
+// The block whose spectrum is lent, within rounding, in the spectrum's place.
+pub fn backward(cells: &mut [i64]) -> Answer
+    ensures answer { λ r. ⌜ r ≡ answer (asSpectrum (now (cells .entry))) ⌝ }
+    ensures cells { λ _. ⌜ now (cells .exit) ≡ left backward (now (cells .entry)) (asSpectrum (now (cells .entry))) ⌝ }
+{
+    match tested(cells, -268435456, 268435456) {
+        KindAnswer::Refused(refusal) => Answer::Refused(refusal),
+        KindAnswer::Taken(kind) => {
+            transform(cells, kind.p);
+            divide(cells, kind.p);
+            Answer::Done
+        }
+    }
+}
+
+// The block's kind if it passes the tests 1 and 3 in turn, or the first fault.
+fn tested(cells: &[i64], low: i64, high: i64) -> KindAnswer
+    ensures { λ r. ⌜ r ≡ tested low high (now (cells .entry)) ⌝ }
+{
+    match BlockKind::of_len(cells.len()) {
+        KindAnswer::Refused(refusal) => KindAnswer::Refused(refusal),
+        KindAnswer::Taken(kind) => not_loud(cells, low, high, kind),
+    }
+}
+
+// The kind of a block with no cell outside low to high, or the refusal of its first such cell.
+fn not_loud(cells: &[i64], low: i64, high: i64, kind: BlockKind) -> KindAnswer
+    ensures { λ r. ⌜ r ≡ notLoud low high kind 0 (now (cells .entry)) ⌝ }
+{
+    let mut i = 0;
+    while i < cells.len() {
+        let x = cells[i];
+        if x < low || high < x {
+            return KindAnswer::Refused(Refusal::Loud(i));
+        }
+        i += 1;
+    }
+    KindAnswer::Taken(kind)
+}
+
+// Permutes the 2^p cells and runs all levels on them.
+fn transform(cells: &mut [i64], p: usize)
+    requires { ⌜ Ready p (now cells) ⌝ }
+    ensures { λ _. ⌜ now (cells .exit) ≡ forward p (now (cells .entry)) ⌝ }
+{
+    let n = cells.len();
+    let mut cosines = [0i64; 512];
+    let mut sines = [0i64; 512];
+    fill_turn(&mut cosines[..n / 2], &mut sines[..n / 2], n);
+    let mut kept = [0i64; 1024];
+    copy(cells, &mut kept[..n]);
+    permute(&kept[..n], cells, p);
+    run_levels(cells, &mut kept[..n], &cosines[..n / 2], &sines[..n / 2], p);
+}
+
+// The table's cosines and sines for a block of n cells: n/2 each, 1,024 / n steps apart. The constant table is read here alone.
+fn fill_turn(cosines: &mut [i64], sines: &mut [i64], n: usize)
+    requires { ⌜ (0 < n) × (length (now cosines) ≡ n / 2) × (length (now sines) ≡ n / 2) ⌝ }
+    ensures { λ _. ⌜ (now (cosines .exit) ≡ turned cosine n) × (now (sines .exit) ≡ turned sine n) ⌝ }
+{
+    let quarter = cosine::quarter_table();
+    let apart = BlockKind::TURN / n;
+    let mut j = 0;
+    while j < cosines.len() {
+        cosines[j] = cosine::cosine(&quarter, j * apart);
+        sines[j] = cosine::sine(&quarter, j * apart);
+        j += 1;
+    }
+}
+
+// Copies the cells of one list to another.
+fn copy(from: &[i64], to: &mut [i64])
+    requires { ⌜ length (now to) ≡ length (now from) ⌝ }
+    ensures { λ _. ⌜ now (to .exit) ≡ now (from .entry) ⌝ }
+{
+    let mut i = 0;
+    while i < from.len() {
+        to[i] = from[i];
+        i += 1;
+    }
+}
+
+// Brings to each place the cell whose p digits are those of the place reversed. The places are found one from another:
+// those of i are those of i / 2, one digit lower, and the last digit of i as the highest.
+fn permute(kept: &[i64], cells: &mut [i64], p: usize)
+    requires { ⌜ (p ≤ 10) × (length (now kept) ≡ 2 ^ p) × (length (now cells) ≡ 2 ^ p) ⌝ }
+    ensures { λ _. ⌜ now (cells .exit) ≡ permuted p (now (kept .entry)) ⌝ }
+{
+    let mut places = [0usize; 1024];
+    let half = cells.len() / 2;
+    let mut i = 0;
+    while i < cells.len() {
+        let place = places[i / 2] / 2 + i % 2 * half;
+        places[i] = place;
+        cells[i] = kept[place];
+        i += 1;
+    }
+}
+
+// Levels 1 to p. The cells before each level are kept aside, so no line is written before its mirror partner has been read.
+fn run_levels(cells: &mut [i64], kept: &mut [i64], cosines: &[i64], sines: &[i64], p: usize)
+    requires { ⌜ (p ≤ 10) × (length (now cells) ≡ 2 ^ p) × (length (now kept) ≡ 2 ^ p) × (now cosines ≡ turned cosine (2 ^ p)) × (now sines ≡ turned sine (2 ^ p)) × ((L : ℕ) → L ≤ p → Within (2 ^ 40) (levelsInForce L (now cells))) ⌝ }
+    ensures { λ _. ⌜ now (cells .exit) ≡ levelsInForce p (now (cells .entry)) ⌝ }
+{
+    let mut half = 1;
+    let mut stride = cosines.len();
+    let mut level = 0;
+    while level < p {
+        copy(cells, kept);
+        join_level(kept, cells, cosines, sines, half, stride);
+        half = 2 * half;
+        stride = stride / 2;
+        level += 1;
+    }
+}
+
+// One level: joins neighbouring halves, each of `half` cells.
+fn join_level(
+    kept: &[i64],
+    cells: &mut [i64],
+    cosines: &[i64],
+    sines: &[i64],
+    half: usize,
+    stride: usize,
+)
+    requires { ⌜ Joins half stride (now kept) (now cosines) (now sines) × (length (now cells) ≡ length (now kept)) ⌝ }
+    ensures { λ _. ⌜ now (cells .exit) ≡ levelInForce half (now (kept .entry)) ⌝ }
+{
+    let mut base = 0;
+    while base < cells.len() {
+        join(kept, cells, cosines, sines, half, stride, base);
+        base += 2 * half;
+    }
+}
+
+// Joins the two halves that begin at base. Lines v and half + v share their operands, and half a turn on cosine and sine
+// change their signs. The mirror of line 0 is line 0, that of line v is line half - v.
+fn join(
+    kept: &[i64],
+    cells: &mut [i64],
+    cosines: &[i64],
+    sines: &[i64],
+    half: usize,
+    stride: usize,
+    base: usize,
+)
+    requires { ⌜ Joins half stride (now kept) (now cosines) (now sines) × (length (now cells) ≡ length (now kept)) × (base + 2 * half ≤ length (now kept)) × (base / (2 * half) * (2 * half) ≡ base) × Filled (pos 0) (joinedCell half (cell (now kept))) base (now cells) ⌝ }
+    ensures { λ _. ⌜ (length (now (cells .exit)) ≡ length (now (cells .entry))) × Filled (pos 0) (joinedCell half (cell (now (kept .entry)))) (base + 2 * half) (now (cells .exit)) ⌝ }
+{
+    let mut v = 0;
+    let mut mirror = 0;
+    let mut step = 0;
+    while v < half {
+        let a = kept[base + v];
+        let sum = products(
+            kept[base + half + v],
+            kept[base + half + mirror],
+            cosines[step],
+            sines[step],
+        );
+        cells[base + v] = plus_quotient(a, sum);
+        cells[base + half + v] = plus_quotient(a, -sum);
+        v += 1;
+        mirror = half - v;
+        step += stride;
+    }
+}
+
+// The sum of both products.
+fn products(b: i64, mirror: i64, cosine: i64, sine: i64) -> i64
+    requires { ⌜ (natAbs b ≤ 2 ^ 40) × (natAbs mirror ≤ 2 ^ 40) × (natAbs cosine ≤ SCALE) × (natAbs sine ≤ SCALE) ⌝ }
+    ensures { λ r. ⌜ (r ≡ b *ℤ cosine +ℤ mirror *ℤ sine) × (natAbs r ≤ 2 ^ 56) ⌝ }
+{
+    b * cosine + mirror * sine
+}
+
+// A cell of the first half, and the sum of both products divided by the scale with rounding.
+fn plus_quotient(a: i64, sum: i64) -> i64
+    requires { ⌜ (natAbs a ≤ 2 ^ 40) × (natAbs sum ≤ 2 ^ 56) ⌝ }
+    ensures { λ r. ⌜ r ≡ a +ℤ rounded SCALE sum ⌝ }
+{
+    a + ints::rounded(sum, BlockKind::SCALE_DIGITS)
+}
+
+// Divides each cell by 2^p with rounding.
+fn divide(cells: &mut [i64], p: usize)
+    ensures { λ _. ⌜ now (cells .exit) ≡ map (rounded (2 ^ p)) (now (cells .entry)) ⌝ }
+{
+    let mut i = 0;
+    while i < cells.len() {
+        cells[i] = ints::rounded(cells[i], p);
+        i += 1;
+    }
+}
