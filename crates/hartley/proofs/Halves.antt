@@ -1,146 +1,122 @@
--- One pair of neighbouring halves: where line v, its partners and its step lie, what its two lines are, and how they fill the cells.
-use mathlib.Core.Path.{_≡_, refl, sym, _∙_, ap, ap₂, subst}
+-- One pair of halves a and b of n cells: where line v, its mirror and its step lie, what lines v and n + v are, and how they fill the cells.
+use mathlib.Core.Path.{_≡_, refl, sym, _∙_, ap}
 use mathlib.Core.Bool.{Bool, true, false, not}
 use mathlib.Core.List.{List}
-use Prim.Native.Nat.{ℕ, zero, suc, _+_, _*_, _-_, _/_, _%_, _≤_, _<_, _^_}
-use native.Mathlib.Nat.{mul-le-mul-right, mod-lt, add-assoc}
+use Prim.Native.Nat.{ℕ, zero, suc, _+_, _*_, _-_, _%_, _≤_, _<_}
+use native.Mathlib.Nat.{mul-le-mul-right, mod-lt}
 use native.Mathlib.Omega.{arith}
 use borrow.Author.Count.{below-more}
 use lib.Dec.{T, ltb, ltb→lt, nltb→le}
 use lib.IntN.{ℤ, pos, negℤ, natAbs, _+ℤ_, _*ℤ_}
 use lib.ListN.{length, getD, set, length-set}
 use lib.Seq.{getD-set-same, getD-set-other}
-use Rattle.ints.specs.Quotient.{rounded}
-use Rattle.ints.specs.Tabulate.{tabulate, Filled}
+use Rattle.ints.specs.Tabulate.{Filled}
 use Rattle.ints.proofs.Tables.{getD-tabulate, length-tabulate}
 use Rattle.ints.proofs.Filling.{filled-next, filled-still}
-use Rattle.refusal.specs.BlockKinds.{SCALE, SCALE-DIGITS, TURN}
-use Rattle.cosine.specs.Cosine.{cosine, sine, quarterTable}
+use Rattle.refusal.specs.BlockKinds.{SCALE, SCALE-DIGITS}
+use Rattle.cosine.specs.Cosine.{quarterTable}
 use Rattle.cosine.proofs.Turn.{cosine-half, sine-half}
 use Rattle.cosine.proofs.TableNear.{table-cosine-size, table-sine-size, table-end}
-use Rattle.spectrum.specs.Levels.{cell}
+use Rattle.spectrum.specs.Levels.{cell, line}
+use Rattle.spectrum.specs.Spectrum.{quotient, tableCosine, tableSine}
 use Rattle.spectrum.proofs.Pairs.{first-half, second-half}
-use Rattle.hartley.specs.Workers.{joinedCell, turned, Joins}
+use Rattle.hartley.specs.Workers.{Joins}
 
 -- ---- where they lie
 
-step-below : (half stride N v : ℕ) → 2 * half * stride ≡ N → 0 < N → v < half → v * stride + stride ≤ N / 2
-step-below half stride N v e some h = omega (arith, mul-le-mul-right stride h)
+stride-some : (n stride apart : ℕ) → 2 * n * (stride * apart) ≡ 1024 → 0 < stride
+stride-some n zero apart e = omega arith
+stride-some n (suc stride) apart e = omega arith
 
-stride-some : (half stride N : ℕ) → 2 * half * stride ≡ N → 0 < N → 0 < stride
-stride-some half zero N e some = omega arith
-stride-some half (suc stride) N e some = omega arith
+pub record Places (n stride v mirror step : ℕ) : Type 0 where
+  pub below : v < n
+  pub mirrored : mirror < n
+  pub step-in : step < n * stride
+  pub step-on : step + stride ≤ n * stride
 
-pub record Places (N half stride base v mirror step : ℕ) : Type 0 where
-  pub below : v < half
-  pub first : base + v < N
-  pub second : base + half + v < N
-  pub mirrored : base + half + mirror < N
-  pub step-on : step + stride ≤ N / 2
-  pub step-in : step < N / 2
-
-pub places : (N half stride base v mirror step : ℕ) → 2 * half * stride ≡ N → base + 2 * half ≤ N → v < half → mirror ≡ (half - v) % half → step ≡ v * stride →
-    Places N half stride base v mirror step
-places N half stride base v mirror step e room h m s =
-    let j : mirror < half = rw m (mod-lt (half - v) (omega arith)) in
-    let k : step + stride ≤ N / 2 = rw s (step-below half stride N v e (omega arith) h) in
-    let l = stride-some half stride N e (omega arith) in
-    record { below = h; first = omega arith; second = omega arith; mirrored = omega arith; step-on = k; step-in = omega arith }
+pub places : {n stride : ℕ} {cosines sines : List ℤ} → Joins n stride cosines sines → (v mirror step : ℕ) → v < n → mirror ≡ (n - v) % n → step ≡ v * stride →
+    Places n stride v mirror step
+places {n} {stride} J v mirror step h m s =
+    let on : step + stride ≤ n * stride = omega (arith, mul-le-mul-right stride h) in
+    record { below = h; mirrored = rw m (mod-lt (n - v) (omega arith)); step-in = omega (arith, stride-some n stride (J .apart) (J .turn)); step-on = on }
 
 -- ---- what they are
 
-abbrev pub sumOfProducts : List ℤ → List ℤ → List ℤ → ℕ → ℕ → ℕ → ℕ → ℕ → ℤ
-sumOfProducts kept cosines sines half base v mirror step = cell kept (base + half + v) *ℤ cell cosines step +ℤ cell kept (base + half + mirror) *ℤ cell sines step
+module _ {n stride : ℕ} {cosines sines : List ℤ} (J : Joins n stride cosines sines) where
+  pub cosines-many : length cosines ≡ n * stride
+  cosines-many = ap length (J .at-cosines) ∙ length-tabulate (n * stride) _
 
-module _ {half stride : ℕ} {kept cosines sines : List ℤ} (J : Joins half stride kept cosines sines) where
-  pub cosines-many : length cosines ≡ length kept / 2
-  cosines-many = ap length (J .at-cosines) ∙ length-tabulate (length kept / 2) _
+  pub sines-many : length sines ≡ n * stride
+  sines-many = ap length (J .at-sines) ∙ length-tabulate (n * stride) _
 
-  pub sines-many : length sines ≡ length kept / 2
-  sines-many = ap length (J .at-sines) ∙ length-tabulate (length kept / 2) _
+  cosine-at : (k : ℕ) → k < n * stride → cell cosines k ≡ tableCosine (k * J .apart)
+  cosine-at k h = ap (λ (l : List ℤ). cell l k) (J .at-cosines) ∙ getD-tabulate (n * stride) _ (pos 0) k h
 
-  cosine-at : (k : ℕ) → k < length kept / 2 → cell cosines k ≡ cosine (quarterTable SCALE-DIGITS) (k * (TURN / length kept))
-  cosine-at k h = ap (λ (l : List ℤ). cell l k) (J .at-cosines) ∙ getD-tabulate (length kept / 2) _ (pos 0) k h
+  sine-at : (k : ℕ) → k < n * stride → cell sines k ≡ tableSine (k * J .apart)
+  sine-at k h = ap (λ (l : List ℤ). cell l k) (J .at-sines) ∙ getD-tabulate (n * stride) _ (pos 0) k h
 
-  sine-at : (k : ℕ) → k < length kept / 2 → cell sines k ≡ sine (quarterTable SCALE-DIGITS) (k * (TURN / length kept))
-  sine-at k h = ap (λ (l : List ℤ). cell l k) (J .at-sines) ∙ getD-tabulate (length kept / 2) _ (pos 0) k h
-
-  pub cosine-small : (k : ℕ) → k < length kept / 2 → natAbs (cell cosines k) ≤ SCALE
+  pub cosine-small : (k : ℕ) → k < n * stride → natAbs (cell cosines k) ≤ SCALE
   cosine-small k h = rw (cosine-at k h) (table-cosine-size SCALE-DIGITS (omega arith) _)
 
-  pub sine-small : (k : ℕ) → k < length kept / 2 → natAbs (cell sines k) ≤ SCALE
+  pub sine-small : (k : ℕ) → k < n * stride → natAbs (cell sines k) ≤ SCALE
   sine-small k h = rw (sine-at k h) (table-sine-size SCALE-DIGITS (omega arith) _)
 
-  module _ (base v mirror step : ℕ) (start : base / (2 * half) * (2 * half) ≡ base) (p : Places (length kept) half stride base v mirror step)
-      (m : mirror ≡ (half - v) % half) (s : step ≡ v * stride) where
-    -- the steps of the turn between neighbouring lines
-    apart : ℕ
-    apart = stride * (TURN / length kept)
+  module _ (a b : ℕ → ℤ) (v mirror step : ℕ) (p : Places n stride v mirror step) (m : mirror ≡ (n - v) % n) (s : step ≡ v * stride) where
+    abbrev sum : ℤ
+    sum = b v *ℤ cell cosines step +ℤ b mirror *ℤ cell sines step
 
-    whole : 2 * half * apart ≡ 1024
-    unfolding apart
-    whole = over (TURN / length kept) (J .strides) (J .turn)
+    at-step : step * J .apart ≡ v * (stride * J .apart)
+    at-step = over (J .apart)
       where
-        over : {N : ℕ} (h : ℕ) → 2 * half * stride ≡ N → N * h ≡ 1024 → 2 * half * (stride * h) ≡ 1024
-        over h e f = omega (arith, ap (λ (x : ℕ). x * h) e)
-
-    at-step : step * (TURN / length kept) ≡ v * apart
-    unfolding apart
-    at-step = over step (TURN / length kept) s
-      where
-        over : (step h : ℕ) → step ≡ v * stride → step * h ≡ v * (stride * h)
-        over step h e = omega (arith, ap (λ (x : ℕ). x * h) e)
+        over : (h : ℕ) → step * h ≡ v * (stride * h)
+        over h = rw s (omega arith)
 
     -- the same sum, as the laws of a pair have it
-    same-sum : let b = base / (2 * half) * (2 * half) in
-        cell kept (b + (half + v)) *ℤ cosine (quarterTable SCALE-DIGITS) (v * apart) +ℤ cell kept (b + (half + (half - v) % half)) *ℤ sine (quarterTable SCALE-DIGITS) (v * apart) ≡ sumOfProducts kept cosines sines half base v mirror step
-    same-sum = rw (start, sym at-step, sym m, sym (cosine-at step (p .step-in)), sym (sine-at step (p .step-in)), sym (add-assoc base half v), sym (add-assoc base half mirror)) refl
+    same-sum : let step = v * (stride * J .apart) in
+        b v *ℤ tableCosine step +ℤ b ((n - v) % n) *ℤ tableSine step ≡ sum
+    same-sum = rw (sym at-step, sym m, sym (cosine-at step (p .step-in)), sym (sine-at step (p .step-in))) refl
 
-    pub first-line : joinedCell half (cell kept) (base + v) ≡ cell kept (base + v) +ℤ rounded SCALE (sumOfProducts kept cosines sines half base v mirror step)
-    first-line = ap (λ (b : ℕ). joinedCell half (cell kept) (b + v)) (sym start)
-        ∙ first-half (rounded SCALE) (cosine (quarterTable SCALE-DIGITS)) (sine (quarterTable SCALE-DIGITS)) half (J .some) (cell kept) (base / (2 * half)) apart whole v (p .below)
-        ∙ ap₂ (λ (b : ℕ) (y : ℤ). cell kept (b + v) +ℤ rounded SCALE y) start same-sum
+    pub first-line : line quotient tableCosine tableSine n a b v ≡ a v +ℤ quotient sum
+    first-line = first-half quotient tableCosine tableSine n (J .some) a b (stride * J .apart) (J .turn) v (p .below)
+        ∙ ap (λ (y : ℤ). a v +ℤ quotient y) same-sum
 
-    pub second-line : joinedCell half (cell kept) (base + (half + v)) ≡ cell kept (base + v) +ℤ rounded SCALE (negℤ (sumOfProducts kept cosines sines half base v mirror step))
-    second-line = ap (λ (b : ℕ). joinedCell half (cell kept) (b + (half + v))) (sym start)
-        ∙ second-half (rounded SCALE) (cosine (quarterTable SCALE-DIGITS)) (sine (quarterTable SCALE-DIGITS)) half (J .some) (cell kept) (base / (2 * half)) apart whole v (p .below)
-        (cosine-half (quarterTable SCALE-DIGITS) end) (sine-half (quarterTable SCALE-DIGITS) end)
-        ∙ ap₂ (λ (b : ℕ) (y : ℤ). cell kept (b + v) +ℤ rounded SCALE (negℤ y)) start same-sum
+    pub second-line : line quotient tableCosine tableSine n a b (n + v) ≡ a v +ℤ quotient (negℤ sum)
+    second-line = second-half quotient tableCosine tableSine n (J .some) a b (stride * J .apart) (J .turn) v (p .below)
+        (cosine-half (quarterTable SCALE-DIGITS) end) (sine-half (quarterTable SCALE-DIGITS) end) ∙ ap (λ (y : ℤ). a v +ℤ quotient (negℤ y)) same-sum
       where
         end : quarterTable SCALE-DIGITS 256 ≡ 0
         end = table-end SCALE-DIGITS (omega arith)
 
 -- ---- how they fill the cells
 
--- the lines from half on, up to half + v
-abbrev pub Second : (ℕ → ℤ) → ℕ → ℕ → ℕ → List ℤ → Type 0
-Second f base half v xs = (i : ℕ) → i < v → cell xs (base + (half + i)) ≡ f (base + (half + i))
+-- lines n to n + v are written
+abbrev pub Second : (ℕ → ℤ) → ℕ → ℕ → List ℤ → Type 0
+Second f n v xs = (i : ℕ) → i < v → cell xs (n + i) ≡ f (n + i)
 
-module _ (f : ℕ → ℤ) (base half v : ℕ) (xs : List ℤ) (x y : ℤ) (below : v < half) (room : base + half + v < length xs) where
+module _ (f : ℕ → ℤ) (n v : ℕ) (xs : List ℤ) (x y : ℤ) (below : v < n) (room : length xs ≡ 2 * n) where
   abbrev pub written : List ℤ
-  written = set (set xs (base + v) x) (base + half + v) y
+  written = set (set xs v x) (n + v) y
 
-  pub written-first : x ≡ f (base + v) → Filled (pos 0) f (base + v) xs → Filled (pos 0) f (base + (v + 1)) written
-  written-first e F = subst (λ (n : ℕ). Filled (pos 0) f n written) (add-assoc base v 1)
-      (filled-still (pos 0) f (set xs (base + v) x) (base + v + 1) (base + half + v) y (omega arith) (filled-next (pos 0) f xs (base + v) x (omega arith) e F))
+  pub written-first : x ≡ f v → Filled (pos 0) f v xs → Filled (pos 0) f (v + 1) written
+  written-first e F = filled-still (pos 0) f (set xs v x) (v + 1) (n + v) y (omega arith) (filled-next (pos 0) f xs v x (omega arith) e F)
 
-  pub written-second : y ≡ f (base + (half + v)) → Second f base half v xs → Second f base half (v + 1) written
-  written-second e F = below-more (λ i. cell written (base + (half + i)) ≡ f (base + (half + i))) v
-      (λ i h. getD-set-other (set xs (base + v) x) (base + half + v) (base + (half + i)) y (pos 0) (apart-from i h) ∙ getD-set-other xs (base + v) (base + (half + i)) x (pos 0) (apart-from-first i h) ∙ F i h)
-      (ap (cell written) (sym (add-assoc base half v)) ∙ getD-set-same (set xs (base + v) x) (base + half + v) y (pos 0) (rw length-set room) ∙ e)
+  pub written-second : y ≡ f (n + v) → Second f n v xs → Second f n (v + 1) written
+  written-second e F = below-more (λ i. cell written (n + i) ≡ f (n + i)) v
+      (λ i h. getD-set-other (set xs v x) (n + v) (n + i) y (pos 0) (other i h) ∙ getD-set-other xs v (n + i) x (pos 0) (not-first i h) ∙ F i h)
+      (getD-set-same (set xs v x) (n + v) y (pos 0) (rw length-set (omega arith)) ∙ e)
     where
-      apart-from : (i : ℕ) → i < v → base + (half + i) ≡ base + half + v → ⊥
-      apart-from i h e = omega arith
+      other : (i : ℕ) → i < v → n + i ≡ n + v → ⊥
+      other i h e = omega arith
 
-      apart-from-first : (i : ℕ) → i < v → base + (half + i) ≡ base + v → ⊥
-      apart-from-first i h e = omega arith
+      not-first : (i : ℕ) → i < v → n + i ≡ v → ⊥
+      not-first i h e = omega arith
 
-pub both-halves : (f : ℕ → ℤ) (base half : ℕ) (xs : List ℤ) → Filled (pos 0) f (base + half) xs → Second f base half half xs → Filled (pos 0) f (base + 2 * half) xs
-both-halves f base half xs F G i h = go (ltb i (base + half)) (ltb→lt i (base + half)) (nltb→le i (base + half))
+pub both-halves : (f : ℕ → ℤ) (n : ℕ) (xs : List ℤ) → Filled (pos 0) f n xs → Second f n n xs → Filled (pos 0) f (2 * n) xs
+both-halves f n xs F G i h = go (ltb i n) (ltb→lt i n) (nltb→le i n)
   where
-    go : (t : Bool) → (T t → i < base + half) → (T (not t) → base + half ≤ i) → getD xs i (pos 0) ≡ f i
+    go : (t : Bool) → (T t → i < n) → (T (not t) → n ≤ i) → getD xs i (pos 0) ≡ f i
     go true near far = F i (near tt)
-    go false near far = subst (λ (k : ℕ). getD xs k (pos 0) ≡ f k) (back (far tt)) (G (i - (base + half)) (omega (arith, far tt)))
+    go false near far = ap (cell xs) (back (far tt)) ∙ G (i - n) (omega (arith, far tt)) ∙ ap f (sym (back (far tt)))
       where
-        back : base + half ≤ i → base + (half + (i - (base + half))) ≡ i
+        back : n ≤ i → i ≡ n + (i - n)
         back l = omega arith

@@ -4,19 +4,18 @@ use refusal::KindAnswer;
 use refusal::Refusal;
 ghost use mathlib.Core.Path.{_≡_};
 ghost use mathlib.Core.List.{map};
-ghost use Prim.Native.Nat.{ℕ, _+_, _*_, _/_, _^_, _≤_, _<_};
+ghost use Prim.Native.Nat.{ℕ, _+_, _*_, _/_, _%_, _^_, _≤_, _<_};
 ghost use lib.IntN.{negℤ, pos, _+ℤ_, _*ℤ_, natAbs};
 ghost use lib.ListN.{length};
 ghost use Rattle.ints.specs.Quotient.{rounded};
 ghost use Rattle.ints.specs.Sum.{sum};
-ghost use Rattle.ints.specs.Tabulate.{Filled};
+ghost use Rattle.ints.specs.Tabulate.{tabulate};
 ghost use Rattle.refusal.specs.BlockKinds.{SCALE};
-ghost use Rattle.cosine.specs.Cosine.{cosine, sine};
-ghost use Rattle.spectrum.specs.Levels.{cell, permuted};
-ghost use Rattle.spectrum.specs.Spectrum.{backward, forward};
+ghost use Rattle.spectrum.specs.Levels.{cell, level, levels, line, permuted};
+ghost use Rattle.spectrum.specs.Spectrum.{backward, forward, quotient, tableCosine, tableSine};
 ghost use Rattle.spectrum.specs.Distance.{WithinE};
 ghost use Rattle.hartley.specs.Calls.{answer, asSpectrum, left, notLoud, sampled, tested};
-ghost use Rattle.hartley.specs.Workers.{Joins, joinedCell, levelInForce, levelsInForce, Ready, turned, Within};
+ghost use Rattle.hartley.specs.Workers.{Joins, Ready, turned, Within};
 ghost use Rattle.hartley.specs.declared.Answer.the-variants.{Done};
 
 // What a call on a block answers.
@@ -99,7 +98,7 @@ fn transform(cells: &mut [i64], p: usize)
 // The table's cosines and sines for a block of n cells: n/2 each, 1,024 / n steps apart. The constant table is read here alone.
 fn fill_turn(cosines: &mut [i64], sines: &mut [i64], n: usize)
     requires { ⌜ (0 < n) × (length (now cosines) ≡ n / 2) × (length (now sines) ≡ n / 2) ⌝ }
-    ensures { λ _. ⌜ (now (cosines .exit) ≡ turned cosine n) × (now (sines .exit) ≡ turned sine n) ⌝ }
+    ensures { λ _. ⌜ (now (cosines .exit) ≡ turned tableCosine n) × (now (sines .exit) ≡ turned tableSine n) ⌝ }
 {
     let quarter = cosine::quarter_table();
     let apart = BlockKind::TURN / n;
@@ -142,8 +141,8 @@ fn permute(kept: &[i64], cells: &mut [i64], p: usize)
 
 // Levels 1 to p. The cells before each level are kept aside, so no line is written before its mirror partner has been read.
 fn run_levels(cells: &mut [i64], kept: &mut [i64], cosines: &[i64], sines: &[i64], p: usize)
-    requires { ⌜ (p ≤ 10) × (length (now cells) ≡ 2 ^ p) × (length (now kept) ≡ 2 ^ p) × (now cosines ≡ turned cosine (2 ^ p)) × (now sines ≡ turned sine (2 ^ p)) × ((L : ℕ) → L ≤ p → Within (2 ^ 40) (levelsInForce L (now cells))) ⌝ }
-    ensures { λ _. ⌜ now (cells .exit) ≡ levelsInForce p (now (cells .entry)) ⌝ }
+    requires { ⌜ (p ≤ 10) × (length (now cells) ≡ 2 ^ p) × (length (now kept) ≡ 2 ^ p) × (now cosines ≡ turned tableCosine (2 ^ p)) × (now sines ≡ turned tableSine (2 ^ p)) × ((L : ℕ) → L ≤ p → Within (2 ^ 40) (levels quotient tableCosine tableSine L (now cells))) ⌝ }
+    ensures { λ _. ⌜ now (cells .exit) ≡ levels quotient tableCosine tableSine p (now (cells .entry)) ⌝ }
 {
     let mut half = 1;
     let mut stride = cosines.len();
@@ -166,45 +165,41 @@ fn join_level(
     half: usize,
     stride: usize,
 )
-    requires { ⌜ Joins half stride (now kept) (now cosines) (now sines) × (length (now cells) ≡ length (now kept)) ⌝ }
-    ensures { λ _. ⌜ now (cells .exit) ≡ levelInForce half (now (kept .entry)) ⌝ }
+    requires { ⌜ Joins half stride (now cosines) (now sines) × Within (2 ^ 40) (now kept) × (length (now kept) % (2 * half) ≡ 0) × (length (now cells) ≡ length (now kept)) ⌝ }
+    ensures { λ _. ⌜ now (cells .exit) ≡ level quotient tableCosine tableSine half (now (kept .entry)) ⌝ }
 {
     let mut base = 0;
-    while base < cells.len() {
-        join(kept, cells, cosines, sines, half, stride, base);
-        base += 2 * half;
+    while base < kept.len() {
+        let middle = base + half;
+        let end = middle + half;
+        join(
+            &kept[base..middle],
+            &kept[middle..end],
+            &mut cells[base..end],
+            cosines,
+            sines,
+            stride,
+        );
+        base = end;
     }
 }
 
-// Joins the two halves that begin at base. Lines v and half + v share their operands, and half a turn on cosine and sine
-// change their signs. The mirror of line 0 is line 0, that of line v is line half - v.
-fn join(
-    kept: &[i64],
-    cells: &mut [i64],
-    cosines: &[i64],
-    sines: &[i64],
-    half: usize,
-    stride: usize,
-    base: usize,
-)
-    requires { ⌜ Joins half stride (now kept) (now cosines) (now sines) × (length (now cells) ≡ length (now kept)) × (base + 2 * half ≤ length (now kept)) × (base / (2 * half) * (2 * half) ≡ base) × Filled (pos 0) (joinedCell half (cell (now kept))) base (now cells) ⌝ }
-    ensures { λ _. ⌜ (length (now (cells .exit)) ≡ length (now (cells .entry))) × Filled (pos 0) (joinedCell half (cell (now (kept .entry)))) (base + 2 * half) (now (cells .exit)) ⌝ }
+// The lines of the joined halves a and b. Lines v and n + v have the same operands, and half a turn on cosine and sine change
+// their signs. The mirror of line 0 is line 0, that of line v is line n - v.
+fn join(a: &[i64], b: &[i64], cells: &mut [i64], cosines: &[i64], sines: &[i64], stride: usize)
+    requires { ⌜ Joins (length (now a)) stride (now cosines) (now sines) × Within (2 ^ 40) (now a) × Within (2 ^ 40) (now b) × (length (now b) ≡ length (now a)) × (length (now cells) ≡ 2 * length (now a)) ⌝ }
+    ensures { λ _. ⌜ now (cells .exit) ≡ tabulate (2 * length (now (a .entry))) (line quotient tableCosine tableSine (length (now (a .entry))) (cell (now (a .entry))) (cell (now (b .entry)))) ⌝ }
 {
+    let n = a.len();
     let mut v = 0;
     let mut mirror = 0;
     let mut step = 0;
-    while v < half {
-        let a = kept[base + v];
-        let sum = products(
-            kept[base + half + v],
-            kept[base + half + mirror],
-            cosines[step],
-            sines[step],
-        );
-        cells[base + v] = plus_quotient(a, sum);
-        cells[base + half + v] = plus_quotient(a, -sum);
+    while v < n {
+        let sum = products(b[v], b[mirror], cosines[step], sines[step]);
+        cells[v] = plus_quotient(a[v], sum);
+        cells[n + v] = plus_quotient(a[v], -sum);
         v += 1;
-        mirror = half - v;
+        mirror = n - v;
         step += stride;
     }
 }
@@ -220,7 +215,7 @@ fn products(b: i64, mirror: i64, cosine: i64, sine: i64) -> i64
 // A cell of the first half, and the sum of both products divided by the scale with rounding.
 fn plus_quotient(a: i64, sum: i64) -> i64
     requires { ⌜ (natAbs a ≤ 2 ^ 40) × (natAbs sum ≤ 2 ^ 56) ⌝ }
-    ensures { λ r. ⌜ r ≡ a +ℤ rounded SCALE sum ⌝ }
+    ensures { λ r. ⌜ r ≡ a +ℤ quotient sum ⌝ }
 {
     a + ints::rounded(sum, BlockKind::SCALE_DIGITS)
 }

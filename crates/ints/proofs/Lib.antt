@@ -9,3 +9,4 @@ pub mod Sums
 pub mod Fit
 pub mod Tables
 pub mod Filling
+pub mod Parts

@@ -10,14 +10,13 @@ use native.Mathlib.Omega.{arith}
 use lib.Dec.{T, eqb, leb, eqb→eq, leb→le}
 use lib.IntN.{ℤ, pos, natAbs, _-ℤ_, _*ℤ_}
 use lib.ListN.{length}
-use Rattle.ints.specs.Quotient.{rounded}
 use Rattle.ints.specs.Sum.{sum}
 use Rattle.ints.specs.Tabulate.{tabulate}
 use Rattle.ints.proofs.Tables.{alongside, alongside-at}
-use Rattle.refusal.specs.BlockKinds.{SCALE-DIGITS}
-use Rattle.cosine.specs.Cosine.{cosine, sine, fine, quarterTable}
+use Rattle.refusal.specs.BlockKinds.{SCALE, SCALE-DIGITS}
+use Rattle.cosine.specs.Cosine.{fine}
 use Rattle.spectrum.specs.Levels.{cell, permuted, levels}
-use Rattle.spectrum.specs.Spectrum.{forwardAt, forward}
+use Rattle.spectrum.specs.Spectrum.{forwardAt, forward, quotient, tableCosine, tableSine}
 use Rattle.spectrum.specs.Distance.{bound, directSum, E, WithinE}
 use Rattle.spectrum.proofs.Nearest.{Nearest, nearest-at}
 use Rattle.spectrum.proofs.Distance.{distance}
@@ -33,7 +32,7 @@ distance-at s low high M quiet = distance (nearest-at s low high) M quiet
 
 -- ---- at the scale in force
 
-in-force : Nearest (2 ^ SCALE-DIGITS) (rounded (2 ^ SCALE-DIGITS)) (cosine (quarterTable SCALE-DIGITS)) (sine (quarterTable SCALE-DIGITS))
+in-force : Nearest SCALE quotient tableCosine tableSine
 in-force = nearest-at SCALE-DIGITS (omega arith) (omega arith)
 
 -- step 6: document 01's figures E(0) to E(10) are `bound` at 32,768 for scale and samples, computed once
@@ -61,6 +60,6 @@ unfolding alongside tabulate bound
 rooms = tt
 
 pub forward-room : (L P : ℕ) → L ≤ P → P ≤ 10 → (xs : List ℤ) → ((t : ℕ) → natAbs (cell xs t) ≤ 2 ^ 28) → (i : ℕ) →
-    natAbs (cell (levels (rounded (2 ^ SCALE-DIGITS)) (cosine (quarterTable SCALE-DIGITS)) (sine (quarterTable SCALE-DIGITS)) L (permuted P xs)) i) ≤ 2 ^ 40
+    natAbs (cell (levels quotient tableCosine tableSine L (permuted P xs)) i) ≤ 2 ^ 40
 forward-room L P within few xs loud i = le-trans (level-size in-force (2 ^ 28) (omega arith) L P within few xs loud i)
     (leb→le _ _ (alongside-at leb (λ L. 2 * (2 ^ L * 2 ^ 28) + 2 * bound 32768 (2 ^ 28) L) (λ L. 2 ^ 40) 11 11 rooms L (omega arith)))

@@ -1,16 +1,23 @@
 -- `join_level` is right because each call of `join` fills the cells of one more pair of halves, from the front on, until all are filled.
 use borrow.Author.Needs.{needs}
 use mathlib.Core.Path.{_≡_, refl, sym, _∙_, ap}
-use Prim.Native.Nat.{ℕ, suc, _+_, _*_, _-_, _/_, _≤_, _<_}
-use native.Mathlib.Nat.{mul-le-mul-right, lt-of-mul-lt-mul-right, add-div-right, zero-div, zero-mul, not-suc-le-zero}
+use mathlib.Core.List.{List}
+use Prim.Native.Nat.{ℕ, suc, _+_, _*_, _-_, _/_, _%_, _≤_, _<_, _^_}
+use native.Mathlib.Nat.{mul-le-mul-right, lt-of-mul-lt-mul-right, div-add-mod', zero-mod, add-mod-right, add-assoc, not-suc-le-zero}
 use native.Mathlib.Omega.{arith}
-use lib.IntN.{pos}
-use lib.ListN.{length}
+use lib.IntN.{ℤ, pos, natAbs}
+use lib.ListN.{length, take, drop}
+use borrow.Rule.Slice.PartMut.{putMid, same-len-mid}
 use denote.Ref.{now}
-use Rattle.ints.specs.Tabulate.{Filled}
+use Rattle.ints.specs.Tabulate.{tabulate, Filled}
+use Rattle.ints.proofs.Tables.{getD-tabulate, length-tabulate}
 use Rattle.ints.proofs.Filling.{filled-all}
-use Rattle.spectrum.specs.Levels.{cell, level}
-use Rattle.hartley.specs.Workers.{joinedCell, Joins}
+use Rattle.ints.proofs.Parts.{part-at, length-part, part-all, filled-part}
+use Rattle.spectrum.specs.Levels.{cell, line, joined, level}
+use Rattle.spectrum.specs.Spectrum.{quotient, tableCosine, tableSine}
+use Rattle.spectrum.proofs.Stages.{line-cong}
+use Rattle.spectrum.proofs.Pairs.{in-pair}
+use Rattle.hartley.specs.Workers.{Joins, Within}
 use Rattle.hartley.proofs.join_level.Statement.{statement}
 use Rattle.hartley.proofs.join_level.Tie as tie
 use Rattle.hartley.proofs.join_level.Reads as reads
@@ -19,51 +26,169 @@ use Rattle.hartley.proofs.join.Reads as join-reads
 
 abbrev Inv-loop : tie.InvT-loop
 Inv-loop kept cells₀ cosines sines half stride base₀ cells base =
-    (base ≤ length kept) × (base / (2 * half) * (2 * half) ≡ base) × (length cells ≡ length kept) × Filled (pos 0) (joinedCell half (cell kept)) base cells
+    (base ≤ length kept) × (base % (2 * half) ≡ 0) × (length cells ≡ length kept)
+    × Filled (pos 0) (joined quotient tableCosine tableSine half (cell kept)) base cells
 
 abbrev μ-loop : tie.MeasureT-loop
 μ-loop kept cells₀ cosines sines half stride base₀ cells base = length kept - base
 
+abbrev lines : List ℤ → List ℤ → List ℤ
+lines a b = tabulate (2 * length a) (line quotient tableCosine tableSine (length a) (cell a) (cell b))
+
+cells-long : (xs : List ℤ) (base half : ℕ) → base + 2 * half ≤ length xs → length (take (base + half + half - base) (drop base xs)) ≡ 2 * half
+cells-long xs base half room = length-part (pos 0) base (base + half + half - base) xs (omega arith) ∙ two
+  where
+    two : base + half + half - base ≡ 2 * half
+    two = omega arith
+
+-- ---- the halves a and b of the pair that begins at base, as parts of the list
+
+module _ (kept : List ℤ) (base half : ℕ) (room : base + 2 * half ≤ length kept) where
+  abbrev halfA : List ℤ
+  halfA = take (base + half - base) (drop base kept)
+
+  abbrev halfB : List ℤ
+  halfB = take (base + half + half - (base + half)) (drop (base + half) kept)
+
+  a-long : length halfA ≡ half
+  a-long = length-part (pos 0) base (base + half - base) kept (omega arith) ∙ one
+    where
+      one : base + half - base ≡ half
+      one = omega arith
+
+  b-long : length halfB ≡ half
+  b-long = length-part (pos 0) (base + half) (base + half + half - (base + half)) kept (omega arith) ∙ one
+    where
+      one : base + half + half - (base + half) ≡ half
+      one = omega arith
+
+  lines-long : length (lines halfA halfB) ≡ 2 * half
+  lines-long = length-tabulate (2 * length halfA) _ ∙ ap (λ (n : ℕ). 2 * n) a-long
+
+  -- their lines are the cells of the level
+  lines-joined : 0 < half → base % (2 * half) ≡ 0 → (i : ℕ) → i < 2 * half → cell (lines halfA halfB) i ≡ joined quotient tableCosine tableSine half (cell kept) (base + i)
+  lines-joined some whole i h = getD-tabulate (2 * length halfA) _ (pos 0) i (omega (arith, a-long)) ∙ ap (λ (n : ℕ). line quotient tableCosine tableSine n (cell halfA) (cell halfB) i) a-long
+      ∙ line-cong quotient tableCosine tableSine half (cell halfA) (λ j. cell kept (base / (2 * half) * (2 * half) + j)) (cell halfB) (λ j. cell kept (base / (2 * half) * (2 * half) + (half + j))) i some at-a at-b
+      ∙ sym (in-pair quotient tableCosine tableSine half some (cell kept) (base / (2 * half)) i h) ∙ ap (λ (b : ℕ). joined quotient tableCosine tableSine half (cell kept) (b + i)) start
+    where
+      start : base / (2 * half) * (2 * half) ≡ base
+      start = omega (arith, div-add-mod' base (2 * half))
+
+      at-a : (j : ℕ) → j < half → cell halfA j ≡ cell kept (base / (2 * half) * (2 * half) + j)
+      at-a j k = rw start (part-at (pos 0) base (base + half - base) kept j (omega arith))
+
+      at-b : (j : ℕ) → j < half → cell halfB j ≡ cell kept (base / (2 * half) * (2 * half) + (half + j))
+      at-b j k = rw (start, sym (add-assoc base half j)) (part-at (pos 0) (base + half) (base + half + half - (base + half)) kept j (omega arith))
+
+  -- and written into the cells, which were filled up to base, they fill them up to the end of the pair
+  pair-written : 0 < half → base % (2 * half) ≡ 0 → (cells ys : List ℤ) → length cells ≡ length kept → Filled (pos 0) (joined quotient tableCosine tableSine half (cell kept)) base cells →
+      ys ≡ lines halfA halfB → let after = putMid base (base + half + half - base) cells ys in
+      (length after ≡ length kept) × Filled (pos 0) (joined quotient tableCosine tableSine half (cell kept)) (base + half + half) after
+  pair-written some whole cells ys many F e = (
+    same-len-mid base (base + half + half - base) cells ys (long ∙ sym (cells-long cells base half (omega arith))) ∙ many,
+    λ i h. filled-part (pos 0) (joined quotient tableCosine tableSine half (cell kept)) base (2 * half) cells ys _ (omega arith) F long
+        (λ i k. ap (λ (zs : List ℤ). cell zs i) e ∙ lines-joined some whole i k) i (omega arith),
+  )
+    where
+      long : length ys ≡ 2 * half
+      long = ap length e ∙ lines-long
+
 -- of pairs that begin at multiples of d, one that begins inside ends inside
-pair-inside : (d base pairs N : ℕ) → base / d * d ≡ base → N ≡ pairs * d → base < N → base + d ≤ N
-pair-inside d base pairs N e f h = omega (arith, mul-le-mul-right d (lt-of-mul-lt-mul-right d {m = base / d} {n = pairs} (omega arith)))
+pair-inside : (d base N : ℕ) → base % d ≡ 0 → N % d ≡ 0 → base < N → base + d ≤ N
+pair-inside d base N e f h = omega (arith, div-add-mod' base d, div-add-mod' N d, mul-le-mul-right d (lt-of-mul-lt-mul-right d {m = base / d} {n = N / d} (omega (arith, div-add-mod' base d, div-add-mod' N d))))
 
-next-pair : (d base : ℕ) → 0 < d → base / d * d ≡ base → (base + d) / d * d ≡ base + d
-next-pair d base some e = rw (add-div-right base some) (omega (arith, e))
+next-pair : (n base : ℕ) → base % (2 * n) ≡ 0 → (base + n + n) % (2 * n) ≡ 0
+next-pair n base e = ap (λ (x : ℕ). x % (2 * n)) two ∙ add-mod-right base (2 * n) ∙ e
+  where
+    two : base + n + n ≡ base + 2 * n
+    two = omega arith
 
--- the pair that begins at base lies inside
 inside : (c : tie.In-loop Inv-loop μ-loop) → c .before .loop .base + 2 * c .before .before .args .half ≤ length (now (c .before .before .args .kept))
-inside c = let l = c .before .loop in let s = c .before .before in
-    pair-inside (2 * s .args .half) (l .base) (s .pre .0 .pairs) (length (now (s .args .kept))) (l .inv .1) (s .pre .0 .whole) (omega (arith, l .inv .2))
+inside c = let l = c .before .loop in let s = c .before .before in pair-inside (2 * s .args .half) (l .base) (length (now (s .args .kept))) (l .inv .1) (s .pre .2) (c .loop-test .taken)
 
--- src/lib.rt:173:5
+-- src/lib.rt:166:5
 loop-holds : tie.Need-loop-holds Inv-loop μ-loop
-loop-holds c = let d = 2 * c .args .half in (omega arith, ap (λ (x : ℕ). x * d) (zero-div d) ∙ zero-mul d, c .pre .1, λ i h. absurd (not-suc-le-zero h))
+loop-holds c = (omega arith, zero-mod (2 * c .args .half), c .pre .3, λ i h. absurd (not-suc-le-zero h))
 
--- src/lib.rt:174:9
+-- src/lib.rt:167:22
+add-middle : tie.Need-add-middle Inv-loop μ-loop
+add-middle c = let h = inside c in search needs
+
+-- src/lib.rt:168:19
+add-end : tie.Need-add-end Inv-loop μ-loop
+add-end c = let h = inside c in search needs
+
+-- src/lib.rt:169:14
+mul-join : tie.Need-mul-join Inv-loop μ-loop
+mul-join c = let h = inside c in search needs
+
+-- src/lib.rt:169:14
+sub-join : tie.Need-sub-join Inv-loop μ-loop
+sub-join c = omega arith
+
+-- src/lib.rt:169:14
+part-join-start : tie.Need-part-join-start Inv-loop μ-loop
+part-join-start c = let h = inside c in omega (arith, h, c .before .loop .inv .2)
+
+-- src/lib.rt:169:14
+part-join-end : tie.Need-part-join-end Inv-loop μ-loop
+part-join-end c = let h = inside c in omega (arith, h, c .before .loop .inv .2)
+
+-- src/lib.rt:169:35
+mul-join-2 : tie.Need-mul-join-2 Inv-loop μ-loop
+mul-join-2 c = let h = inside (c .before) in search needs
+
+-- src/lib.rt:169:35
+sub-join-2 : tie.Need-sub-join-2 Inv-loop μ-loop
+sub-join-2 c = omega arith
+
+-- src/lib.rt:169:35
+part-join-start-2 : tie.Need-part-join-start-2 Inv-loop μ-loop
+part-join-start-2 c = let h = inside (c .before) in omega (arith, h, c .before .before .loop .inv .2)
+
+-- src/lib.rt:169:35
+part-join-end-2 : tie.Need-part-join-end-2 Inv-loop μ-loop
+part-join-end-2 c = let h = inside (c .before) in omega (arith, h, c .before .before .loop .inv .2)
+
+-- src/lib.rt:169:55
+mul-join-3 : tie.Need-mul-join-3 Inv-loop μ-loop
+mul-join-3 c = let h = inside (c .before .before) in search needs
+
+-- src/lib.rt:169:55
+sub-join-3 : tie.Need-sub-join-3 Inv-loop μ-loop
+sub-join-3 c = omega arith
+
+-- src/lib.rt:169:55
+part-join-start-3 : tie.Need-part-join-start-3 Inv-loop μ-loop
+part-join-start-3 c = let h = inside (c .before .before) in omega (arith, h, c .before .before .before .loop .inv .2)
+
+-- src/lib.rt:169:55
+part-join-end-3 : tie.Need-part-join-end-3 Inv-loop μ-loop
+part-join-end-3 c = let h = inside (c .before .before) in omega (arith, h, c .before .before .before .loop .inv .2)
+
+-- src/lib.rt:169:9
 join-requires : tie.Need-join-requires Inv-loop μ-loop
-join-requires c κs = let l = c .before .before .loop in let s = c .before .before .before in (s .pre .0, l .inv .2, inside (c .before), l .inv .1, l .inv .3)
+join-requires c κs = let l = c .before .before .before .before .loop in let s = c .before .before .before .before .before in let xs = now (s .args .kept) in let n = s .args .half in let h = inside (c .before .before .before) in let e = a-long xs (l .base) n h in (
+  rw e (s .pre .0),
+  record { size = part-all (pos 0) (λ z. natAbs z ≤ 2 ^ 40) (omega arith) (l .base) (l .base + n - l .base) xs (s .pre .1 .size) },
+  record { size = part-all (pos 0) (λ z. natAbs z ≤ 2 ^ 40) (omega arith) (l .base + n) (l .base + n + n - (l .base + n)) xs (s .pre .1 .size) },
+  b-long xs (l .base) n h ∙ sym e,
+  cells-long (l .cells) (l .base) n (omega (arith, l .inv .2)) ∙ ap (λ (m : ℕ). 2 * m) (sym e),
+)
 
--- src/lib.rt:175:17
-mul-base : tie.Need-mul-base Inv-loop μ-loop
-mul-base c = let h = inside (c .before .before .before) in search needs
-
--- src/lib.rt:175:9
-add-base : tie.Need-add-base Inv-loop μ-loop
-add-base c = let h = inside (c .before .before .before) in search needs
-
--- src/lib.rt:173:5
+-- src/lib.rt:166:5
 loop-less : tie.Need-loop-less Inv-loop μ-loop
-loop-less c = let h = inside (c .before .before .before) in omega (arith, c .before .before .before .before .before .pre .0 .some)
+loop-less c = let h = inside (c .before .before .before .before .before) in omega (arith, c .before .before .before .before .before .before .before .pre .0 .some)
 
--- src/lib.rt:173:5
+-- src/lib.rt:166:5
 loop-again : tie.Need-loop-again Inv-loop μ-loop
-loop-again c = let l = c .before .before .before .before .loop in let s = c .before .before .before .before .before in let d = 2 * s .args .half in let j = c .before .join in
-    (inside (c .before .before .before), next-pair d (l .base) (omega (arith, s .pre .0 .some)) (l .inv .1), j .ensures .0 ∙ l .inv .2, j .ensures .1)
+loop-again c = let l = c .before .before .before .before .before .before .loop in let s = c .before .before .before .before .before .before .before in let h = inside (c .before .before .before .before .before) in
+    let w = pair-written (now (s .args .kept)) (l .base) (s .args .half) h (s .pre .0 .some) (l .inv .1) (l .cells) _ (l .inv .2) (l .inv .3) (c .before .join .ensures) in
+    (omega arith, next-pair (s .args .half) (l .base) (l .inv .1), w .0, w .1)
 
 -- src/lib.rt:161:1
 same-length : tie.Need-same-length Inv-loop μ-loop
-same-length c = c .before .loop .inv .2 ∙ sym (c .before .before .pre .1)
+same-length c = c .before .loop .inv .2 ∙ sym (c .before .before .pre .3)
 
 -- src/lib.rt:161:1
 returns : tie.Need-returns Inv-loop μ-loop
@@ -77,9 +202,21 @@ join-level-spec =
     Inv-loop
     μ-loop
     loop-holds
+    add-middle
+    add-end
+    mul-join
+    sub-join
+    part-join-start
+    part-join-end
+    mul-join-2
+    sub-join-2
+    part-join-start-2
+    part-join-end-2
+    mul-join-3
+    sub-join-3
+    part-join-start-3
+    part-join-end-3
     join-requires
-    mul-base
-    add-base
     loop-less
     loop-again
     same-length

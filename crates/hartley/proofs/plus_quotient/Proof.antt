@@ -14,6 +14,7 @@ use Rattle.ints.proofs.Abs.{abs-fact, abs-plus}
 use Rattle.ints.proofs.Fit.{fits}
 use Rattle.ints.proofs.Rounding.{rounded-near}
 use Rattle.refusal.specs.BlockKinds.{SCALE}
+use Rattle.spectrum.specs.Spectrum.{quotient}
 use Rattle.hartley.proofs.plus_quotient.Statement.{statement}
 use Rattle.hartley.proofs.plus_quotient.Tie as tie
 
@@ -21,11 +22,11 @@ near-size : (q x : ℤ) → natAbs (pos 32768 *ℤ q -ℤ x) ≤ 16384 → natAb
 near-size q x h k = let Γ = q ∷ x ∷ [] in
     omega (arith, abs-fact Γ q (search quotes), abs-fact Γ x (search quotes), abs-fact Γ (pos 32768 *ℤ q -ℤ x) (search quotes))
 
-quotient-size : (x : ℤ) → natAbs x ≤ 2 ^ 56 → natAbs (rounded SCALE x) ≤ 2 ^ 41
-quotient-size x h = near-size (rounded SCALE x) x (rounded-near 16384 (omega arith) x) h
+quotient-size : (x : ℤ) → natAbs x ≤ 2 ^ 56 → natAbs (quotient x) ≤ 2 ^ 41
+quotient-size x h = near-size (quotient x) x (rounded-near 16384 (omega arith) x) h
 
 -- q, the quotient by d, is the quotient by the scale
-by-scale : (d : ℕ) (q x : ℤ) → SFits w64 x → q ≡ rounded d (toZ w64 (ofZ w64 x)) → d ≡ SCALE → q ≡ rounded SCALE x
+by-scale : (d : ℕ) (q x : ℤ) → SFits w64 x → q ≡ rounded d (toZ w64 (ofZ w64 x)) → d ≡ SCALE → q ≡ quotient x
 by-scale d q x f e k = e ∙ ap (rounded d) (toZ-ofZ f) ∙ ap (λ (n : ℕ). rounded n x) k
 
 rounded-requires : tie.Need-rounded-requires
@@ -33,21 +34,21 @@ rounded-requires c κs = search needs
 
 -- the quotient is the one by the scale, it is read back, and there is room for the sum
 record Quotient (a sum q : ℤ) : Type 0 where
-  same : q ≡ rounded SCALE sum
+  same : q ≡ quotient sum
   back : toZ w64 (ofZ w64 q) ≡ q
   room : SFits w64 (a +ℤ q)
 
-quotient : (c : tie.After-rounded) → Quotient (c .before .args .a) (c .before .args .sum) (c .rounded .result)
-quotient c = let a = c .before .args .a in let sum = c .before .args .sum in let q = c .rounded .result in
-    let e : q ≡ rounded SCALE sum = by-scale _ q sum (c .before .fits .sum) (c .rounded .ensures) (omega arith) in
+rounding : (c : tie.After-rounded) → Quotient (c .before .args .a) (c .before .args .sum) (c .rounded .result)
+rounding c = let a = c .before .args .a in let sum = c .before .args .sum in let q = c .rounded .result in
+    let e : q ≡ quotient sum = by-scale _ q sum (c .before .fits .sum) (c .rounded .ensures) (omega arith) in
     let h : natAbs q ≤ 2 ^ 41 = rw e (quotient-size sum (c .before .pre .1)) in
     record { same = e; back = toZ-ofZ (sfits-of (c .rounded .ok)); room = fits (a +ℤ q) (omega (arith, abs-plus a q)) }
 
 add-result : tie.Need-add-result
-add-result c = let f = quotient c in rw (toZ-ofZ (c .before .fits .a), f .back) (f .room)
+add-result c = let f = rounding c in rw (toZ-ofZ (c .before .fits .a), f .back) (f .room)
 
 returns : tie.Need-returns
-returns c = let f = quotient c in
+returns c = let f = rounding c in
     rw (toZ-ofZ (c .before .fits .a), f .back, toZ-ofZ (f .room)) (ap (λ (q : ℤ). c .before .args .a +ℤ q) (f .same))
 
 pub plus-quotient-spec : {M : Type 1} → statement M

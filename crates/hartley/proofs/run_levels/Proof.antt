@@ -2,23 +2,24 @@
 use borrow.Author.Needs.{needs}
 use mathlib.Core.Path.{_≡_, refl, sym, _∙_, ap, ap₂, subst}
 use mathlib.Core.List.{List}
-use Prim.Native.Nat.{ℕ, suc, _+_, _*_, _-_, _/_, _≤_, _<_, _^_}
+use Prim.Native.Nat.{ℕ, suc, _+_, _*_, _-_, _/_, _%_, _≤_, _<_, _^_}
 use native.Mathlib.Numerals.{add-one}
-use native.Mathlib.Nat.{one-mul, sub-zero}
+use native.Mathlib.Nat.{one-mul, sub-zero, mul-mod-left}
 use native.Mathlib.Omega.{arith}
 use lib.IntN.{ℤ}
 use lib.ListN.{length}
 use lib.Pow.{pow-pos, pow-add, pow-mono}
 use denote.Ref.{now}
+use Rattle.ints.specs.Tabulate.{tabulate}
 use Rattle.ints.proofs.Tables.{length-tabulate}
 use Rattle.ints.proofs.Powers.{two-pow}
 use Rattle.refusal.specs.BlockKinds.{TURN}
-use Rattle.cosine.specs.Cosine.{cosine, sine}
-use Rattle.spectrum.specs.Levels.{levels}
+use Rattle.spectrum.specs.Levels.{level, levels}
+use Rattle.spectrum.specs.Spectrum.{quotient, tableCosine, tableSine}
 use Rattle.spectrum.proofs.Pairs.{whole-steps}
 use Rattle.spectrum.proofs.Stages.{length-levels}
 use Rattle.spectrum.proofs.Distance.{whole-turn}
-use Rattle.hartley.specs.Workers.{levelInForce, levelsInForce, turned, Joins, Within}
+use Rattle.hartley.specs.Workers.{turned, Joins, Within}
 use Rattle.hartley.proofs.run_levels.Statement.{statement}
 use Rattle.hartley.proofs.run_levels.Tie as tie
 use Rattle.hartley.proofs.run_levels.Reads as reads
@@ -28,7 +29,7 @@ use Rattle.hartley.proofs.join_level.Reads as join-level-reads
 
 abbrev Inv-loop : tie.InvT-loop
 Inv-loop cells₀ kept₀ cosines sines p half₀ stride₀ level₀ cells kept half stride level =
-    (level ≤ p) × (half ≡ 2 ^ level) × (stride ≡ 2 ^ (p - level) / 2) × (cells ≡ levelsInForce level cells₀) × (length kept ≡ 2 ^ p)
+    (level ≤ p) × (half ≡ 2 ^ level) × (stride ≡ 2 ^ (p - level) / 2) × (cells ≡ levels quotient tableCosine tableSine level cells₀) × (length kept ≡ 2 ^ p)
 
 abbrev μ-loop : tie.MeasureT-loop
 μ-loop cells₀ kept₀ cosines sines p half₀ stride₀ level₀ cells kept half stride level = p - level
@@ -51,27 +52,34 @@ all-cells p level h = ap (λ (x : ℕ). 2 ^ x) sum ∙ pow-add 2 (p - suc level)
 turn-in-steps : (p : ℕ) → p ≤ 10 → 2 ^ p * (TURN / 2 ^ p) ≡ TURN
 turn-in-steps p few = ap (λ (x : ℕ). 2 ^ p * x) (ap (λ (x : ℕ). x / 2 ^ p) (sym (one-mul TURN)) ∙ whole-steps (2 ^ p) (2 ^ (10 - p)) 1 (pow-pos p) (whole-turn p few) ∙ one-mul (2 ^ (10 - p))) ∙ whole-turn p few
 
-joins : (p level : ℕ) → p ≤ 10 → level < p → (half stride : ℕ) (xs cosines sines : List ℤ) → half ≡ 2 ^ level → stride ≡ 2 ^ (p - level) / 2 → length xs ≡ 2 ^ p →
-    cosines ≡ turned cosine (2 ^ p) → sines ≡ turned sine (2 ^ p) → Within (2 ^ 40) xs → Joins half stride xs cosines sines
-joins p level few h half stride xs cosines sines eh es long hc hs quiet =
-    let r = all-cells p level h in let t : stride ≡ 2 ^ (p - suc level) = omega (arith, rest p level h) in
-    record {
-      some = rw eh (pow-pos level);
-      pairs = 2 ^ (p - suc level);
-      whole = rw (long, eh) r;
-      strides = rw (long, eh, t) (omega (arith, r));
-      turn = rw long (turn-in-steps p few);
-      at-cosines = rw long hc;
-      at-sines = rw long hs;
-      quiet = quiet;
-    }
+joins : (p level : ℕ) → p ≤ 10 → level < p → (half stride : ℕ) (cosines sines : List ℤ) → half ≡ 2 ^ level → stride ≡ 2 ^ (p - level) / 2 →
+    cosines ≡ turned tableCosine (2 ^ p) → sines ≡ turned tableSine (2 ^ p) → Joins half stride cosines sines
+joins p level few h half stride cosines sines eh es hc hs = record {
+  some = rw eh (pow-pos level);
+  apart = TURN / 2 ^ p;
+  turn = whole (TURN / 2 ^ p) (turn-in-steps p few);
+  at-cosines = hc ∙ ap (λ (n : ℕ). tabulate n (λ j. tableCosine (j * (TURN / 2 ^ p)))) (sym count);
+  at-sines = hs ∙ ap (λ (n : ℕ). tabulate n (λ j. tableSine (j * (TURN / 2 ^ p)))) (sym count);
+}
+  where
+    cells : 2 ^ p ≡ 2 * (half * stride)
+    cells = let t : stride ≡ 2 ^ (p - suc level) = omega (arith, rest p level h) in rw (eh, t) (omega (arith, all-cells p level h))
 
-as-many : (L : ℕ) (xs : List ℤ) → length (levelsInForce L xs) ≡ length xs
-as-many = length-levels _ _ _
+    count : half * stride ≡ 2 ^ p / 2
+    count = omega (arith, cells)
 
-next-level : (L half : ℕ) (xs kept ys : List ℤ) → ys ≡ levelInForce half kept → half ≡ 2 ^ L → kept ≡ levelsInForce L xs → ys ≡ levelsInForce (L + 1) xs
+    whole : (apart : ℕ) → 2 ^ p * apart ≡ TURN → 2 * half * (stride * apart) ≡ TURN
+    whole apart e = omega (arith, e, ap (λ (x : ℕ). x * apart) cells)
+
+whole-pairs : (p level half : ℕ) → level < p → half ≡ 2 ^ level → 2 ^ p % (2 * half) ≡ 0
+whole-pairs p level half h e = rw (e, all-cells p level h) (mul-mod-left (2 ^ (p - suc level)) (2 * 2 ^ level))
+
+as-many : (L : ℕ) (xs : List ℤ) → length (levels quotient tableCosine tableSine L xs) ≡ length xs
+as-many = length-levels quotient tableCosine tableSine
+
+next-level : (L half : ℕ) (xs kept ys : List ℤ) → ys ≡ level quotient tableCosine tableSine half kept → half ≡ 2 ^ L → kept ≡ levels quotient tableCosine tableSine L xs → ys ≡ levels quotient tableCosine tableSine (L + 1) xs
 unfolding levels
-next-level L half xs kept ys e f g = rw (add-one L) (e ∙ ap₂ levelInForce f g)
+next-level L half xs kept ys e f g = rw (add-one L) (e ∙ ap₂ (level quotient tableCosine tableSine) f g)
 
 -- src/lib.rt:151:5
 loop-holds : tie.Need-loop-holds Inv-loop μ-loop
@@ -84,10 +92,11 @@ copy-requires c κs = let l = c .before .before .before .loop .inv in let s = c 
 
 -- src/lib.rt:153:9
 join-level-requires : tie.Need-join-level-requires Inv-loop μ-loop
-join-level-requires c κs = let l = c .before .before .before .before .before .before .before .loop in let s = c .before .before .before .before .before .before .before .before in let e = c .before .before .before .copy .ensures in
+join-level-requires c κs = let l = c .before .before .before .before .before .before .before .loop in let s = c .before .before .before .before .before .before .before .before in let p = s .args .p in let e = c .before .before .before .copy .ensures in
     let long = ap length (l .inv .3) ∙ as-many _ _ ∙ s .pre .1 in (
-      joins (s .args .p) (l .level) (s .pre .0) (omega arith) (l .half) (l .stride) _ _ _ (l .inv .1) (l .inv .2) (ap length e ∙ long) (s .pre .3) (s .pre .4)
-          (subst (Within (2 ^ 40)) (sym (e ∙ l .inv .3)) (s .pre .5 (l .level) (l .inv .0))),
+      joins p (l .level) (s .pre .0) (omega arith) (l .half) (l .stride) _ _ (l .inv .1) (l .inv .2) (s .pre .3) (s .pre .4),
+      subst (Within (2 ^ 40)) (sym (e ∙ l .inv .3)) (s .pre .5 (l .level) (l .inv .0)),
+      rw (ap length e ∙ long) (whole-pairs p (l .level) (l .half) (omega arith) (l .inv .1)),
       sym (ap length e),
     )
 
@@ -125,7 +134,7 @@ same-length-2 c = c .before .loop .inv .4 ∙ sym (c .before .before .pre .2)
 -- src/lib.rt:144:1
 returns : tie.Need-returns Inv-loop μ-loop
 returns c = let l = c .before .loop in let s = c .before .before in let e : l .level ≡ s .args .p = omega (arith, l .inv .0) in
-    l .inv .3 ∙ ap (λ (k : ℕ). levelsInForce k (now (s .args .cells))) e
+    l .inv .3 ∙ ap (λ (k : ℕ). levels quotient tableCosine tableSine k (now (s .args .cells))) e
 
 pub run-levels-spec : {M : Type 1} → statement M
 run-levels-spec =

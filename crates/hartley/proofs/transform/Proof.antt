@@ -10,12 +10,11 @@ use lib.Pow.{pow-pos, pow-mono}
 use lib.Seq.{take-at, length-take-le}
 use denote.Ref.{now}
 use Rattle.ints.proofs.Tables.{length-tabulate}
-use Rattle.cosine.specs.Cosine.{cosine, sine}
-use Rattle.spectrum.specs.Levels.{permuted, transformed}
-use Rattle.spectrum.specs.Spectrum.{forward, forwardAt}
+use Rattle.spectrum.specs.Levels.{permuted, levels, transformed}
+use Rattle.spectrum.specs.Spectrum.{forward, forwardAt, quotient, tableCosine, tableSine}
 use Rattle.spectrum.proofs.Stages.{length-permuted}
 use Rattle.spectrum.proofs.Demand3.{forward-room}
-use Rattle.hartley.specs.Workers.{levelsInForce, Ready, turned, Within}
+use Rattle.hartley.specs.Workers.{Ready, turned, Within}
 use Rattle.hartley.proofs.transform.Statement.{statement}
 use Rattle.hartley.proofs.transform.Tie as tie
 use Rattle.hartley.proofs.transform.Reads as reads
@@ -35,7 +34,7 @@ front-fits n e d h q = omega (arith, length-append e d, ap length q)
 
 -- ---- the lists of cosines and sines
 
-turned-many : (trig : (ℕ → ℕ) → ℕ → ℤ) (N : ℕ) → length (turned trig N) ≡ N / 2
+turned-many : (trig : ℕ → ℤ) (N : ℕ) → length (turned trig N) ≡ N / 2
 turned-many trig N = length-tabulate (N / 2) _
 
 -- ---- the block's length
@@ -100,19 +99,19 @@ slice-aggregate-run-levels c = sym (ap length (front _ _ _ refl (c .before .befo
 
 -- src/lib.rt:96:39
 array-share-prefix-cosines : tie.Need-array-share-prefix-cosines
-array-share-prefix-cosines c = front-fits _ _ _ (turned-many cosine _) (c .before .before .before .before .before .before .before .before .before .before .before .before .fill-turn .ensures .0)
+array-share-prefix-cosines c = front-fits _ _ _ (turned-many tableCosine _) (c .before .before .before .before .before .before .before .before .before .before .before .before .fill-turn .ensures .0)
 
 -- src/lib.rt:96:39
 slice-aggregate-run-levels-2 : tie.Need-slice-aggregate-run-levels-2
-slice-aggregate-run-levels-2 c = sym (ap length (front _ _ _ (turned-many cosine _) (c .before .before .before .before .before .before .before .before .before .before .before .before .before .fill-turn .ensures .0)) ∙ turned-many cosine _)
+slice-aggregate-run-levels-2 c = sym (ap length (front _ _ _ (turned-many tableCosine _) (c .before .before .before .before .before .before .before .before .before .before .before .before .before .fill-turn .ensures .0)) ∙ turned-many tableCosine _)
 
 -- src/lib.rt:96:58
 array-share-prefix-sines : tie.Need-array-share-prefix-sines
-array-share-prefix-sines c = front-fits _ _ _ (turned-many sine _) (c .before .before .before .before .before .before .before .before .before .before .before .before .before .fill-turn .ensures .1)
+array-share-prefix-sines c = front-fits _ _ _ (turned-many tableSine _) (c .before .before .before .before .before .before .before .before .before .before .before .before .before .fill-turn .ensures .1)
 
 -- src/lib.rt:96:58
 slice-aggregate-run-levels-3 : tie.Need-slice-aggregate-run-levels-3
-slice-aggregate-run-levels-3 c = sym (ap length (front _ _ _ (turned-many sine _) (c .before .before .before .before .before .before .before .before .before .before .before .before .before .before .fill-turn .ensures .1)) ∙ turned-many sine _)
+slice-aggregate-run-levels-3 c = sym (ap length (front _ _ _ (turned-many tableSine _) (c .before .before .before .before .before .before .before .before .before .before .before .before .before .before .fill-turn .ensures .1)) ∙ turned-many tableSine _)
 
 -- src/lib.rt:96:5
 run-levels-requires : tie.Need-run-levels-requires
@@ -121,8 +120,8 @@ run-levels-requires c κs = let s = c .before .before .before .before .before .b
       s .pre .most,
       ap length e ∙ length-permuted p xs,
       ap length k ∙ n,
-      front _ _ _ (turned-many cosine _) (c .before .before .before .before .before .before .before .before .before .before .before .before .before .before .fill-turn .ensures .0) ∙ ap (turned cosine) n,
-      front _ _ _ (turned-many sine _) (c .before .before .before .before .before .before .before .before .before .before .before .before .before .before .fill-turn .ensures .1) ∙ ap (turned sine) n,
+      front _ _ _ (turned-many tableCosine _) (c .before .before .before .before .before .before .before .before .before .before .before .before .before .before .fill-turn .ensures .0) ∙ ap (turned tableCosine) n,
+      front _ _ _ (turned-many tableSine _) (c .before .before .before .before .before .before .before .before .before .before .before .before .before .before .fill-turn .ensures .1) ∙ ap (turned tableSine) n,
       λ L h. record { size = λ i. rw e (forward-room L p h (s .pre .most) xs (s .pre .quiet .size) i) },
     )
 
@@ -134,7 +133,7 @@ same-length c = search needs
 returns : tie.Need-returns
 unfolding forward forwardAt transformed
 returns c = let s = c .before .before .before .before .before .before .before .before .before .before .before .before .before .before .before .before .before .before .before .before in let xs = now (s .args .cells) in let p = s .args .p in
-    c .before .before .run-levels .ensures ∙ ap (levelsInForce p) (c .before .before .before .before .before .before .before .before .permute .ensures ∙ ap (permuted p) (front (length xs) _ _ refl (c .before .before .before .before .before .before .before .before .before .before .before .before .copy .ensures)))
+    c .before .before .run-levels .ensures ∙ ap (levels quotient tableCosine tableSine p) (c .before .before .before .before .before .before .before .before .permute .ensures ∙ ap (permuted p) (front (length xs) _ _ refl (c .before .before .before .before .before .before .before .before .before .before .before .before .copy .ensures)))
 
 pub transform-spec : {M : Type 1} → statement M
 transform-spec =
