@@ -1,7 +1,9 @@
 -- What the engine's inner functions ask of their callers and leave. None of it stands in a public promise.
 use mathlib.Core.Path.{_≡_}
+use mathlib.Core.Bool.{cond}
 use mathlib.Core.List.{List}
-use Prim.Native.Nat.{ℕ, _+_, _*_, _/_, _^_, _≤_, _<_}
+use Prim.Native.Nat.{ℕ, zero, suc, _+_, _-_, _*_, _/_, _^_, _≤_, _<_}
+use lib.Dec.{ltb}
 use lib.IntN.{ℤ, natAbs}
 use lib.ListN.{length, getD}
 use Rattle.ints.specs.Tabulate.{tabulate}
@@ -12,6 +14,11 @@ use Rattle.spectrum.specs.Spectrum.{tableCosine, tableSine}
 -- no cell is above b in magnitude
 pub record Within (b : ℕ) (xs : List ℤ) : Type 0 where
   pub size : (i : ℕ) → natAbs (cell xs i) ≤ b
+
+-- one more, in P binary digits of which the first is the lowest: a 0 becomes 1, and of a 1 there is a carry to the digit after it
+unfoldable pub nextReversed : ℕ → ℕ → ℕ
+nextReversed zero r = r
+nextReversed (suc P) r = cond (ltb r (2 ^ P)) (r + 2 ^ P) (nextReversed P (r - 2 ^ P))
 
 -- 2^P cells, P from 1 to 10, that leave room for all levels
 pub record Ready (P : ℕ) (xs : List ℤ) : Type 0 where

@@ -15,7 +15,7 @@ ghost use Rattle.spectrum.specs.Levels.{cell, level, levels, line, permuted};
 ghost use Rattle.spectrum.specs.Spectrum.{backward, forward, quotient, tableCosine, tableSine};
 ghost use Rattle.spectrum.specs.Distance.{WithinE};
 ghost use Rattle.hartley.specs.Calls.{answer, asSpectrum, left, notLoud, sampled, tested};
-ghost use Rattle.hartley.specs.Workers.{Joins, Ready, turned, Within};
+ghost use Rattle.hartley.specs.Workers.{Joins, nextReversed, Ready, turned, Within};
 ghost use Rattle.hartley.specs.declared.Answer.the-variants.{Done};
 
 // What a call on a block answers.
@@ -122,21 +122,36 @@ fn copy(from: &[i64], to: &mut [i64])
     }
 }
 
-// Brings to each place the cell whose p digits are those of the place reversed. The places are found one from another:
-// those of i are those of i / 2, one digit lower, and the last digit of i as the highest.
+// Brings to each place the cell whose p digits are those of the place reversed.
 fn permute(kept: &[i64], cells: &mut [i64], p: usize)
     requires { ⌜ (p ≤ 10) × (length (now kept) ≡ 2 ^ p) × (length (now cells) ≡ 2 ^ p) ⌝ }
     ensures { λ _. ⌜ now (cells .exit) ≡ permuted p (now (kept .entry)) ⌝ }
 {
-    let mut places = [0usize; 1024];
-    let half = cells.len() / 2;
+    let highest = kept.len() / 2;
+    let mut from = 0;
     let mut i = 0;
     while i < cells.len() {
-        let place = places[i / 2] / 2 + i % 2 * half;
-        places[i] = place;
-        cells[i] = kept[place];
+        cells[i] = kept[from];
+        from = next_reversed(from, highest);
         i += 1;
     }
+}
+
+// From the digits of a number reversed, those of the next number: it counts up from the highest digit on.
+fn next_reversed(digits: usize, highest: usize) -> usize
+    requires { ⌜ highest ≤ 512 ⌝ }
+    ensures { λ r. ⌜ ((p : ℕ) → highest ≡ 2 ^ p / 2 → r ≡ nextReversed p digits) ⌝ }
+{
+    let mut rest = digits;
+    let mut digit = highest;
+    while 0 < digit {
+        if rest < digit {
+            return rest + digit;
+        }
+        rest -= digit;
+        digit = digit / 2;
+    }
+    rest
 }
 
 // Levels 1 to p. The cells before each level are kept aside, so no line is written before its mirror partner has been read.
