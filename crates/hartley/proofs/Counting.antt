@@ -1,12 +1,9 @@
 -- Counting up in reversed digits: from the digits of i reversed, those of i + 1.
 -- Example: `next-reversed 3 5 : nextReversed 3 (reversed 3 5) ≡ reversed 3 6`, from 101 to 011.
 use mathlib.Core.Path.{_≡_, refl, sym, _∙_, ap, ap₂}
-use mathlib.Core.Bool.{Bool, true, false}
 use Prim.Native.Nat.{ℕ, zero, suc, _+_, _*_, _-_, _/_, _%_, _≤_, _<_, _^_}
 use native.Mathlib.Omega.{arith}
 use borrow.Author.Tests.{lt-ltb, le-ltb}
-use lib.Dec.{ltb, eqb}
-use Rattle.ints.proofs.Powers.{two-pow}
 use Rattle.spectrum.specs.Levels.{reversed}
 use Rattle.spectrum.proofs.Reversal.{reversed-lt}
 use Rattle.hartley.specs.Workers.{nextReversed}

@@ -1,5 +1,5 @@
 -- What a block that is taken is like: its length is that of its kind, and no cell is outside the limits.
--- Example: `taken-quiet 32768 32767 32768 xs kind (omega arith) (omega arith) e i : natAbs (cell xs i) ≤ 32768`, with e : sampled xs ≡ Taken kind.
+-- Example: `taken-quiet 32768 32767 32768 xs kind (omega arith) (omega arith) e i : natAbs (cell xs i) ≤ 32768`, with e : testedSamples xs ≡ Taken kind.
 use mathlib.Core.Path.{_≡_, refl, _∙_, ap}
 use mathlib.Core.Bool.{Bool, true, false, cond, _||_}
 use mathlib.Core.List.{List, [], _∷_}

@@ -28,11 +28,11 @@ unfolding notLoud
 tested low high xs = thenLoud low high xs (kindOf (length xs))
 
 -- what is taken by forward: cells of -32,768 to 32,767; and by any call that takes a spectrum: ±2^28
-abbrev pub sampled : List ℤ → KindAnswer
-sampled xs = tested (negℤ (pos 32768)) (pos 32767) xs
+abbrev pub testedSamples : List ℤ → KindAnswer
+testedSamples xs = tested (negℤ (pos 32768)) (pos 32767) xs
 
-abbrev pub asSpectrum : List ℤ → KindAnswer
-asSpectrum xs = tested (negℤ (pos (2 ^ 28))) (pos (2 ^ 28)) xs
+abbrev pub testedSpectrum : List ℤ → KindAnswer
+testedSpectrum xs = tested (negℤ (pos (2 ^ 28))) (pos (2 ^ 28)) xs
 
 -- the answer of a call that is done where the block is taken
 abbrev pub answer : KindAnswer → Answer
@@ -40,6 +40,6 @@ answer (Taken kind) = Done
 answer (Untaken refusal) = Refused refusal
 
 -- the cells that such a call leaves: f of the lent cells and their P, or the lent cells where it refuses
-abbrev pub left : (ℕ → List ℤ → List ℤ) → List ℤ → KindAnswer → List ℤ
-left f xs (Taken kind) = f (kind .p) xs
-left f xs (Untaken refusal) = xs
+abbrev pub leaves : (ℕ → List ℤ → List ℤ) → List ℤ → KindAnswer → List ℤ
+leaves f xs (Taken kind) = f (kind .p) xs
+leaves f xs (Untaken refusal) = xs

@@ -14,9 +14,16 @@ ghost use Rattle.refusal.specs.BlockKinds.{SCALE};
 ghost use Rattle.spectrum.specs.Levels.{cell, level, levels, line, permuted};
 ghost use Rattle.spectrum.specs.Spectrum.{backward, forward, quotient, tableCosine, tableSine};
 ghost use Rattle.spectrum.specs.Distance.{WithinE};
-ghost use Rattle.hartley.specs.Calls.{answer, asSpectrum, left, notLoud, sampled, tested};
+ghost use Rattle.hartley.specs.Calls.{answer, testedSpectrum, leaves, notLoud, testedSamples, tested};
 ghost use Rattle.hartley.specs.Workers.{Joins, nextReversed, Ready, turned, Within};
 ghost use Rattle.hartley.specs.declared.Answer.the-variants.{Done};
+
+// A sample lies between these two (16 bits).
+const LEAST_SAMPLE: i64 = -32768;
+
+const LARGEST_SAMPLE: i64 = 32767;
+// A line of a spectrum is at most this, to either side: 2^28.
+const LARGEST_LINE: i64 = 268435456;
 
 // What a call on a block answers.
 pub enum Answer {
@@ -26,12 +33,12 @@ pub enum Answer {
 
 // The forward spectrum of a block of samples, which it replaces.
 pub fn forward(cells: &mut [i64]) -> Answer
-    ensures answer { λ r. ⌜ r ≡ answer (sampled (now (cells .entry))) ⌝ }
-    ensures cells { λ _. ⌜ now (cells .exit) ≡ left forward (now (cells .entry)) (sampled (now (cells .entry))) ⌝ }
+    ensures answer { λ r. ⌜ r ≡ answer (testedSamples (now (cells .entry))) ⌝ }
+    ensures cells { λ _. ⌜ now (cells .exit) ≡ leaves forward (now (cells .entry)) (testedSamples (now (cells .entry))) ⌝ }
     ensures distance { λ r. ⌜ (r ≡ Done → (P : ℕ) → length (now (cells .entry)) ≡ 2 ^ P → WithinE P (now (cells .entry)) (now (cells .exit))) ⌝ }
     ensures first_line { λ r. ⌜ (r ≡ Done → cell (now (cells .exit)) 0 ≡ sum (length (now (cells .entry))) (cell (now (cells .entry)))) ⌝ }
 {
-    match tested(cells, -32768, 32767) {
+    match tested(cells, LEAST_SAMPLE, LARGEST_SAMPLE) {
         KindAnswer::Refused(refusal) => Answer::Refused(refusal),
         KindAnswer::Taken(kind) => {
             transform(cells, kind.p);
@@ -42,10 +49,10 @@ pub fn forward(cells: &mut [i64]) -> Answer
 
 // The block whose spectrum is lent, within rounding, in the spectrum's place.
 pub fn backward(cells: &mut [i64]) -> Answer
-    ensures answer { λ r. ⌜ r ≡ answer (asSpectrum (now (cells .entry))) ⌝ }
-    ensures cells { λ _. ⌜ now (cells .exit) ≡ left backward (now (cells .entry)) (asSpectrum (now (cells .entry))) ⌝ }
+    ensures answer { λ r. ⌜ r ≡ answer (testedSpectrum (now (cells .entry))) ⌝ }
+    ensures cells { λ _. ⌜ now (cells .exit) ≡ leaves backward (now (cells .entry)) (testedSpectrum (now (cells .entry))) ⌝ }
 {
-    match tested(cells, -268435456, 268435456) {
+    match tested(cells, -LARGEST_LINE, LARGEST_LINE) {
         KindAnswer::Refused(refusal) => Answer::Refused(refusal),
         KindAnswer::Taken(kind) => {
             transform(cells, kind.p);
@@ -86,10 +93,10 @@ fn transform(cells: &mut [i64], p: usize)
     ensures { λ _. ⌜ now (cells .exit) ≡ forward p (now (cells .entry)) ⌝ }
 {
     let n = cells.len();
-    let mut cosines = [0i64; 512];
-    let mut sines = [0i64; 512];
+    let mut cosines = [0i64; BlockKind::LARGEST / 2];
+    let mut sines = [0i64; BlockKind::LARGEST / 2];
     fill_turn(&mut cosines[..n / 2], &mut sines[..n / 2], n);
-    let mut kept = [0i64; 1024];
+    let mut kept = [0i64; BlockKind::LARGEST];
     copy(cells, &mut kept[..n]);
     permute(&kept[..n], cells, p);
     run_levels(cells, &mut kept[..n], &cosines[..n / 2], &sines[..n / 2], p);

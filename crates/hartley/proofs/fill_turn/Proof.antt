@@ -1,28 +1,21 @@
 -- `fill_turn` is right because each of the two lists is filled from the front with the table's cosine, or sine, of the same step.
 use borrow.Author.Needs.{needs, sfits-of}
-use mathlib.Core.Path.{_≡_, refl, sym, _∙_, ap}
+use mathlib.Core.Path.{_≡_, sym, _∙_, ap}
 use mathlib.Core.List.{List}
-use Prim.Native.Nat.{ℕ, zero, suc, _+_, _*_, _-_, _/_, _%_, _≤_, _<_, _^_}
+use Prim.Native.Nat.{ℕ, _*_, _-_, _/_, _≤_}
 use native.Mathlib.Nat.{mul-le-mul-right, div-add-mod, not-suc-le-zero}
 use native.Mathlib.Omega.{arith}
-use lib.IntN.{ℤ, pos}
-use lib.ListN.{length, getD, set, length-set}
+use lib.IntN.{pos}
+use lib.ListN.{length, length-set}
 use mir.Facts.{toZ-ofZ}
-use denote.Ref.{now}
 use Rattle.ints.specs.Tabulate.{Filled}
 use Rattle.ints.proofs.Filling.{filled-next, filled-all}
 use Rattle.refusal.specs.BlockKinds.{SCALE-DIGITS, TURN}
 use Rattle.cosine.specs.Cosine.{cosine, sine, entries, quarterTable}
 use Rattle.cosine.proofs.Turn.{cosine-listed, sine-listed}
 use Rattle.spectrum.specs.Spectrum.{tableCosine, tableSine}
-use Rattle.hartley.specs.Workers.{turned}
 use Rattle.hartley.proofs.fill_turn.Statement.{statement}
 use Rattle.hartley.proofs.fill_turn.Tie as tie
-use Rattle.hartley.proofs.fill_turn.Reads as reads
-use Rattle.hartley.proofs.fill_turn.Lts as lts
-use Rattle.cosine.proofs.cosine.Reads as cosine-reads
-use Rattle.cosine.proofs.quarter_table.Reads as quarter-table-reads
-use Rattle.cosine.proofs.sine.Reads as sine-reads
 
 abbrev Inv-loop : tie.InvT-loop
 Inv-loop cosines₀ sines₀ n quarter apart j₀ cosines sines j =
@@ -35,59 +28,45 @@ abbrev μ-loop : tie.MeasureT-loop
 step-small : (j n : ℕ) → j ≤ n → j * (TURN / n) ≤ TURN
 step-small j n h = omega (arith, mul-le-mul-right (TURN / n) h, div-add-mod TURN n)
 
--- src/lib.rt:104:19
 quarter-table-requires : tie.Need-quarter-table-requires Inv-loop μ-loop
 quarter-table-requires c κs = search needs
 
--- src/lib.rt:105:17
 div-apart : tie.Need-div-apart Inv-loop μ-loop
 div-apart c = search needs
 
--- src/lib.rt:107:5
 loop-holds : tie.Need-loop-holds Inv-loop μ-loop
 loop-holds c = let p = c .before .pre in (omega arith, p .1, p .2, λ i h. absurd (not-suc-le-zero h), λ i h. absurd (not-suc-le-zero h))
 
--- src/lib.rt:108:47
 mul-cosine : tie.Need-mul-cosine Inv-loop μ-loop
 mul-cosine c = omega (arith, step-small (c .before .before .loop .j) (c .before .before .before .before .args .n) (omega arith))
 
--- src/lib.rt:108:22
 cosine-requires : tie.Need-cosine-requires Inv-loop μ-loop
 cosine-requires c κs = search needs
 
--- src/lib.rt:108:9
 mul-sines : tie.Need-mul-sines Inv-loop μ-loop
 mul-sines c = search needs
 
--- src/lib.rt:108:9
 slice-set-from-sines : tie.Need-slice-set-from-sines Inv-loop μ-loop
 slice-set-from-sines c = omega arith
 
--- src/lib.rt:109:43
 mul-sine : tie.Need-mul-sine Inv-loop μ-loop
 mul-sine c = omega (arith, step-small (c .before .before .before .before .loop .j) (c .before .before .before .before .before .before .args .n) (omega arith))
 
--- src/lib.rt:109:20
 sine-requires : tie.Need-sine-requires Inv-loop μ-loop
 sine-requires c κs = search needs
 
--- src/lib.rt:109:9
 mul-t8 : tie.Need-mul-t8 Inv-loop μ-loop
 mul-t8 c = search needs
 
--- src/lib.rt:109:9
 slice-set-from-sines-2 : tie.Need-slice-set-from-sines-2 Inv-loop μ-loop
 slice-set-from-sines-2 c = omega arith
 
--- src/lib.rt:110:9
 add-j : tie.Need-add-j Inv-loop μ-loop
 add-j c = omega arith
 
--- src/lib.rt:107:5
 loop-less : tie.Need-loop-less Inv-loop μ-loop
 loop-less c = omega arith
 
--- src/lib.rt:107:5
 loop-again : tie.Need-loop-again Inv-loop μ-loop
 loop-again c = let l = c .before .before .before .before .before .loop in let n = c .before .before .before .before .before .before .before .args .n in
     let quarter = c .before .before .before .before .before .before .quarter-table .ensures in let step = l .j * (TURN / n) in (
@@ -102,15 +81,12 @@ loop-again c = let l = c .before .before .before .before .before .loop in let n 
           (l .inv .4),
     )
 
--- src/lib.rt:100:1
 same-length : tie.Need-same-length Inv-loop μ-loop
 same-length c = c .before .loop .inv .1 ∙ sym (c .before .before .before .pre .1)
 
--- src/lib.rt:100:1
 same-length-2 : tie.Need-same-length-2 Inv-loop μ-loop
 same-length-2 c = c .before .loop .inv .2 ∙ sym (c .before .before .before .pre .2)
 
--- src/lib.rt:100:1
 returns : tie.Need-returns Inv-loop μ-loop
 returns c = let l = c .before .loop in
     (filled-all (pos 0) _ (l .cosines) _ (l .inv .1) (λ k h. l .inv .3 k (omega (arith, l .inv .1))), filled-all (pos 0) _ (l .sines) _ (l .inv .2) (λ k h. l .inv .4 k (omega (arith, l .inv .1))))

@@ -1,10 +1,10 @@
 -- `forward` is right because `tested` finds the first fault or none, and `transform` leaves the spectrum, of which demand 3 and line 0 are laws.
 use borrow.Author.Needs.{needs}
-use mathlib.Core.Path.{_≡_, sym, _∙_, ap, subst}
+use mathlib.Core.Path.{_≡_, sym, _∙_, ap}
 use mathlib.Core.List.{List}
 use Prim.Native.Nat.{ℕ, _^_}
 use native.Mathlib.Omega.{arith}
-use lib.IntN.{ℤ, pos, negℤ}
+use lib.IntN.{ℤ}
 use lib.ListN.{length}
 use denote.Ref.{now}
 use Rattle.ints.specs.Sum.{sum}
@@ -16,22 +16,18 @@ use Rattle.spectrum.specs.Levels.{cell}
 use Rattle.spectrum.specs.Spectrum.{forward}
 use Rattle.spectrum.specs.Distance.{WithinE}
 use Rattle.spectrum.proofs.Demand3.{demand-3, forward-first}
-use Rattle.hartley.specs.Calls.{answer, left, sampled}
+use Rattle.hartley.specs.Calls.{answer, leaves, testedSamples}
 use Rattle.hartley.specs.declared.Answer.{Answer}
 use Rattle.hartley.specs.declared.Answer.the-variants.{Done, Refused}
 use Rattle.hartley.proofs.Taken.{taken-kind, taken-quiet, taken-ready}
 use Rattle.hartley.proofs.forward.Statement.{statement}
 use Rattle.hartley.proofs.forward.Tie as tie
-use Rattle.hartley.proofs.forward.Reads as reads
-use Rattle.hartley.proofs.forward.Lts as lts
-use Rattle.hartley.proofs.tested.Reads as tested-reads
-use Rattle.hartley.proofs.transform.Reads as transform-reads
 
 refused-not-done : {A : Type 0} (refusal : Refusal) → _≡_ {A = Answer} (Refused refusal) Done → A
 refused-not-done refusal e = let z : _≡_ {A = ℕ} 0 1 = cc in absurd (omega arith)
 
 -- what holds of the spectrum of a block that is taken
-module _ (xs : List ℤ) (kind : BlockKind) (e : sampled xs ≡ Taken kind) where
+module _ (xs : List ℤ) (kind : BlockKind) (e : testedSamples xs ≡ Taken kind) where
   near : (P : ℕ) → length xs ≡ 2 ^ P → WithinE P xs (forward (kind .p) xs)
   near P long = let k = taken-kind _ _ xs kind e in
       rw (two-pow-same (kind .p) P (sym (k .cells) ∙ long)) (demand-3 P (rw (two-pow-same P (kind .p) (sym long ∙ k .cells)) (k .most)) xs long (taken-quiet 32768 32767 32768 xs kind (omega arith) (omega arith) e))
@@ -39,40 +35,32 @@ module _ (xs : List ℤ) (kind : BlockKind) (e : sampled xs ≡ Taken kind) wher
   first : cell (forward (kind .p) xs) 0 ≡ sum (length xs) (cell xs)
   first = forward-first (kind .p) xs ∙ ap (λ (n : ℕ). sum n (cell xs)) (sym (taken-kind _ _ xs kind e .cells))
 
--- src/lib.rt:35:11
 tested-requires : tie.Need-tested-requires
 tested-requires c κs = search needs
 
--- src/lib.rt:36:29
 enum-known-refusal : tie.Need-enum-known-refusal
 enum-known-refusal c = search needs
 
--- src/lib.rt:37:27
 enum-known-kind : tie.Need-enum-known-kind
 enum-known-kind c = search needs
 
--- src/lib.rt:38:13
 transform-requires : tie.Need-transform-requires
 transform-requires c κs = taken-ready 32768 32767 _ _ (omega arith) (omega arith) (sym (c .before .before .before .before .tested .ensures) ∙ c .before .before .kind .given .1)
 
--- src/lib.rt:29:1
 same-length : tie.Need-same-length
 same-length c = search needs
 
--- src/lib.rt:29:1
 returns : tie.Need-returns
 returns c = let r = c .before .refusal .given .0 .0 in let e = sym (c .before .before .before .tested .ensures) ∙ c .before .refusal .given .1 in
-    (sym (ap answer e), (sym (ap (left forward _) e), (refused-not-done r, refused-not-done r)))
+    (sym (ap answer e), (sym (ap (leaves forward _) e), (refused-not-done r, refused-not-done r)))
 
--- src/lib.rt:29:1
 same-length-2 : tie.Need-same-length-2
 same-length-2 c = search needs
 
--- src/lib.rt:29:1
 returns-2 : tie.Need-returns-2
 returns-2 c = let xs = now (c .before .before .before .before .before .before .before .before .args .cells) in let kind = c .before .before .before .before .kind .given .0 .0 in let e = sym (c .before .before .before .before .before .before .tested .ensures) ∙ c .before .before .before .before .kind .given .1 in
     let t = c .before .transform .ensures in
-    (sym (ap answer e), (t ∙ sym (ap (left forward xs) e), (λ h P long. rw t (near xs kind e P long), λ h. ap (λ (ys : List ℤ). cell ys 0) t ∙ first xs kind e)))
+    (sym (ap answer e), (t ∙ sym (ap (leaves forward xs) e), (λ h P long. rw t (near xs kind e P long), λ h. ap (λ (ys : List ℤ). cell ys 0) t ∙ first xs kind e)))
 
 pub forward-spec : {M : Type 1} → statement M
 forward-spec =

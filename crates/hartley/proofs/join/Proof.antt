@@ -23,10 +23,6 @@ use Rattle.hartley.specs.Workers.{Joins, Within}
 use Rattle.hartley.proofs.Halves.{Places, places, cosines-many, sines-many, cosine-small, sine-small, first-line, second-line, Second, written-first, written-second, both-halves}
 use Rattle.hartley.proofs.join.Statement.{statement}
 use Rattle.hartley.proofs.join.Tie as tie
-use Rattle.hartley.proofs.join.Reads as reads
-use Rattle.hartley.proofs.join.Lts as lts
-use Rattle.hartley.proofs.plus_quotient.Reads as plus-quotient-reads
-use Rattle.hartley.proofs.products.Reads as products-reads
 
 abbrev Inv-loop : tie.InvT-loop
 Inv-loop a b cells₀ cosines sines stride n v₀ mirror₀ step₀ cells v mirror step =
@@ -88,44 +84,34 @@ second-read c = let i = c .before .before .before .before .before .before .befor
 one-more : (v stride : ℕ) → v * stride + stride ≡ (v + 1) * stride
 one-more v stride = omega arith
 
--- src/lib.rt:184:5
 loop-holds : tie.Need-loop-holds Inv-loop μ-loop
 loop-holds c = let n = length (now (c .args .a)) in
     (omega arith, sym (ap (λ (x : ℕ). x % n) (sub-zero n) ∙ mod-self n), sym (zero-mul (c .args .stride)), c .pre .4, λ i h. absurd (not-suc-le-zero h), λ i h. absurd (not-suc-le-zero h))
 
--- src/lib.rt:185:28
 mul-products : tie.Need-mul-products Inv-loop μ-loop
 mul-products c = let p = here c in search needs
 
--- src/lib.rt:185:28
 shared-slice-copy-out-products : tie.Need-shared-slice-copy-out-products Inv-loop μ-loop
 shared-slice-copy-out-products c = let p = here c in search needs
 
--- src/lib.rt:185:34
 mul-products-2 : tie.Need-mul-products-2 Inv-loop μ-loop
 mul-products-2 c = let p = here (c .before) in search needs
 
--- src/lib.rt:185:34
 shared-slice-copy-out-products-2 : tie.Need-shared-slice-copy-out-products-2 Inv-loop μ-loop
 shared-slice-copy-out-products-2 c = let p = here (c .before) in search needs
 
--- src/lib.rt:185:45
 mul-products-3 : tie.Need-mul-products-3 Inv-loop μ-loop
 mul-products-3 c = let p = here (c .before .before) in let l = cosines-many (c .before .before .before .before .pre .0) in search needs
 
--- src/lib.rt:185:45
 shared-slice-copy-out-products-3 : tie.Need-shared-slice-copy-out-products-3 Inv-loop μ-loop
 shared-slice-copy-out-products-3 c = let p = here (c .before .before) in let l = cosines-many (c .before .before .before .before .pre .0) in search needs
 
--- src/lib.rt:185:60
 mul-products-4 : tie.Need-mul-products-4 Inv-loop μ-loop
 mul-products-4 c = let p = here (c .before .before .before) in let l = sines-many (c .before .before .before .before .before .pre .0) in search needs
 
--- src/lib.rt:185:60
 shared-slice-copy-out-products-4 : tie.Need-shared-slice-copy-out-products-4 Inv-loop μ-loop
 shared-slice-copy-out-products-4 c = let p = here (c .before .before .before) in let l = sines-many (c .before .before .before .before .before .pre .0) in search needs
 
--- src/lib.rt:185:13
 products-requires : tie.Need-products-requires Inv-loop μ-loop
 products-requires c κs = let i = c .before .before .before .before in let s = i .before .before .args in let l = i .before .loop in let q = i .before .before .pre in let p = here i in (
   read-cell (now (s .b)) (l .v) (q .2),
@@ -134,77 +120,60 @@ products-requires c κs = let i = c .before .before .before .before in let s = i
   read-small (cell (now (s .sines)) (l .step)) SCALE (omega arith) (sine-small (q .0) (l .step) (p .step-in)),
 )
 
--- src/lib.rt:186:34
 mul-plus-quotient : tie.Need-mul-plus-quotient Inv-loop μ-loop
 mul-plus-quotient c = let p = here (c .before .before .before .before .before) in search needs
 
--- src/lib.rt:186:34
 shared-slice-copy-out-plus-quotient : tie.Need-shared-slice-copy-out-plus-quotient Inv-loop μ-loop
 shared-slice-copy-out-plus-quotient c = let p = here (c .before .before .before .before .before) in search needs
 
--- src/lib.rt:186:20
 plus-quotient-requires : tie.Need-plus-quotient-requires Inv-loop μ-loop
 plus-quotient-requires c κs = let s = c .before .before .before .before .before .before .before .before in let z = c .before .products in
     (read-cell (now (s .args .a)) (c .before .before .before .before .before .before .before .loop .v) (s .pre .1), read-small (z .result) (2 ^ 56) (omega arith) (z .ensures .1))
 
--- src/lib.rt:186:9
 mul-t22 : tie.Need-mul-t22 Inv-loop μ-loop
 mul-t22 c = let p = here (c .before .before .before .before .before .before .before) in search needs
 
--- src/lib.rt:186:9
 slice-set-from-cells : tie.Need-slice-set-from-cells Inv-loop μ-loop
 slice-set-from-cells c = let p = here (c .before .before .before .before .before .before .before) in omega (arith, c .before .before .before .before .before .before .before .before .loop .inv .3)
 
--- src/lib.rt:187:38
 mul-plus-quotient-2 : tie.Need-mul-plus-quotient-2 Inv-loop μ-loop
 mul-plus-quotient-2 c = let p = here (c .before .before .before .before .before .before .before) in search needs
 
--- src/lib.rt:187:38
 shared-slice-copy-out-plus-quotient-2 :
     tie.Need-shared-slice-copy-out-plus-quotient-2 Inv-loop μ-loop
 shared-slice-copy-out-plus-quotient-2 c = let p = here (c .before .before .before .before .before .before .before) in search needs
 
--- src/lib.rt:187:44
 sub-plus-quotient : tie.Need-sub-plus-quotient Inv-loop μ-loop
 sub-plus-quotient c = let z = c .before .before .before .products in let y = toZ w64 (ofZ w64 (z .result)) in
     fits (pos 0 -ℤ y) (omega (arith, minus y (read-small (z .result) (2 ^ 56) (omega arith) (z .ensures .1))))
 
--- src/lib.rt:187:24
 plus-quotient-requires-2 : tie.Need-plus-quotient-requires-2 Inv-loop μ-loop
 plus-quotient-requires-2 c κs = let s = c .before .before .before .before .before .before .before .before .before .before in let z = c .before .before .before .products in let y = toZ w64 (ofZ w64 (z .result)) in (
   read-cell (now (s .args .a)) (c .before .before .before .before .before .before .before .before .before .loop .v) (s .pre .1),
   read-small (pos 0 -ℤ y) (2 ^ 56) (omega arith) (minus y (read-small (z .result) (2 ^ 56) (omega arith) (z .ensures .1))),
 )
 
--- src/lib.rt:187:15
 add-t13 : tie.Need-add-t13 Inv-loop μ-loop
 add-t13 c = let p = here (c .before .before .before .before .before .before .before .before .before) in search needs
 
--- src/lib.rt:187:9
 mul-t22-2 : tie.Need-mul-t22-2 Inv-loop μ-loop
 mul-t22-2 c = let p = here (c .before .before .before .before .before .before .before .before .before) in search needs
 
--- src/lib.rt:187:9
 slice-set-from-cells-2 : tie.Need-slice-set-from-cells-2 Inv-loop μ-loop
 slice-set-from-cells-2 c = let p = here (c .before .before .before .before .before .before .before .before .before) in rw length-set (omega (arith, c .before .before .before .before .before .before .before .before .before .before .loop .inv .3))
 
--- src/lib.rt:188:9
 add-v : tie.Need-add-v Inv-loop μ-loop
 add-v c = let p = here (c .before .before .before .before .before .before .before .before .before) in search needs
 
--- src/lib.rt:189:18
 sub-mirror : tie.Need-sub-mirror Inv-loop μ-loop
 sub-mirror c = let p = here (c .before .before .before .before .before .before .before .before .before) in search needs
 
--- src/lib.rt:190:9
 add-step : tie.Need-add-step Inv-loop μ-loop
 add-step c = let p = here (c .before .before .before .before .before .before .before .before .before) in let l = cosines-many (c .before .before .before .before .before .before .before .before .before .before .before .pre .0) in search needs
 
--- src/lib.rt:184:5
 loop-less : tie.Need-loop-less Inv-loop μ-loop
 loop-less c = let p = here (c .before .before .before .before .before .before .before .before .before) in search needs
 
--- src/lib.rt:184:5
 loop-again : tie.Need-loop-again Inv-loop μ-loop
 loop-again c = let i = c .before .before .before .before .before .before .before .before .before in let s = i .before .before .args in let l = i .before .loop in let p = here i in let f = line quotient tableCosine tableSine (length (now (s .a))) (cell (now (s .a))) (cell (now (s .b))) in (
   omega arith,
@@ -215,11 +184,9 @@ loop-again c = let i = c .before .before .before .before .before .before .before
   written-second f (length (now (s .a))) (l .v) (l .cells) _ _ (p .below) (l .inv .3) (second-read c) (l .inv .5),
 )
 
--- src/lib.rt:176:1
 same-length : tie.Need-same-length Inv-loop μ-loop
 same-length c = c .before .loop .inv .3 ∙ sym (c .before .before .pre .4)
 
--- src/lib.rt:176:1
 returns : tie.Need-returns Inv-loop μ-loop
 returns c = let l = c .before .loop in let n = length (now (c .before .before .args .a)) in let e : l .v ≡ n = omega arith in
     filled-all (pos 0) _ (l .cells) (2 * n) (l .inv .3) (both-halves _ n (l .cells) (λ k h. l .inv .4 k (omega arith)) (λ k h. l .inv .5 k (omega arith)))

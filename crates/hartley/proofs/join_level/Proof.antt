@@ -1,8 +1,8 @@
 -- `join_level` is right because each call of `join` fills the cells of one more pair of halves, from the front on, until all are filled.
 use borrow.Author.Needs.{needs}
-use mathlib.Core.Path.{_≡_, refl, sym, _∙_, ap}
+use mathlib.Core.Path.{_≡_, sym, _∙_, ap}
 use mathlib.Core.List.{List}
-use Prim.Native.Nat.{ℕ, suc, _+_, _*_, _-_, _/_, _%_, _≤_, _<_, _^_}
+use Prim.Native.Nat.{ℕ, _+_, _*_, _-_, _/_, _%_, _≤_, _<_, _^_}
 use native.Mathlib.Nat.{mul-le-mul-right, lt-of-mul-lt-mul-right, div-add-mod', zero-mod, add-mod-right, add-assoc, not-suc-le-zero}
 use native.Mathlib.Omega.{arith}
 use lib.IntN.{ℤ, pos, natAbs}
@@ -20,9 +20,6 @@ use Rattle.spectrum.proofs.Pairs.{in-pair}
 use Rattle.hartley.specs.Workers.{Joins, Within}
 use Rattle.hartley.proofs.join_level.Statement.{statement}
 use Rattle.hartley.proofs.join_level.Tie as tie
-use Rattle.hartley.proofs.join_level.Reads as reads
-use Rattle.hartley.proofs.join_level.Lts as lts
-use Rattle.hartley.proofs.join.Reads as join-reads
 
 abbrev Inv-loop : tie.InvT-loop
 Inv-loop kept cells₀ cosines sines half stride base₀ cells base =
@@ -106,67 +103,51 @@ next-pair n base e = ap (λ (x : ℕ). x % (2 * n)) two ∙ add-mod-right base (
 inside : (c : tie.In-loop Inv-loop μ-loop) → c .before .loop .base + 2 * c .before .before .args .half ≤ length (now (c .before .before .args .kept))
 inside c = let l = c .before .loop in let s = c .before .before in pair-inside (2 * s .args .half) (l .base) (length (now (s .args .kept))) (l .inv .1) (s .pre .2) (c .loop-test .taken)
 
--- src/lib.rt:166:5
 loop-holds : tie.Need-loop-holds Inv-loop μ-loop
 loop-holds c = (omega arith, zero-mod (2 * c .args .half), c .pre .3, λ i h. absurd (not-suc-le-zero h))
 
--- src/lib.rt:167:22
 add-middle : tie.Need-add-middle Inv-loop μ-loop
 add-middle c = let h = inside c in search needs
 
--- src/lib.rt:168:19
 add-end : tie.Need-add-end Inv-loop μ-loop
 add-end c = let h = inside c in search needs
 
--- src/lib.rt:169:14
 mul-join : tie.Need-mul-join Inv-loop μ-loop
 mul-join c = let h = inside c in search needs
 
--- src/lib.rt:169:14
 sub-join : tie.Need-sub-join Inv-loop μ-loop
 sub-join c = omega arith
 
--- src/lib.rt:169:14
 part-join-start : tie.Need-part-join-start Inv-loop μ-loop
 part-join-start c = let h = inside c in omega (arith, h, c .before .loop .inv .2)
 
--- src/lib.rt:169:14
 part-join-end : tie.Need-part-join-end Inv-loop μ-loop
 part-join-end c = let h = inside c in omega (arith, h, c .before .loop .inv .2)
 
--- src/lib.rt:169:35
 mul-join-2 : tie.Need-mul-join-2 Inv-loop μ-loop
 mul-join-2 c = let h = inside (c .before) in search needs
 
--- src/lib.rt:169:35
 sub-join-2 : tie.Need-sub-join-2 Inv-loop μ-loop
 sub-join-2 c = omega arith
 
--- src/lib.rt:169:35
 part-join-start-2 : tie.Need-part-join-start-2 Inv-loop μ-loop
 part-join-start-2 c = let h = inside (c .before) in omega (arith, h, c .before .before .loop .inv .2)
 
--- src/lib.rt:169:35
 part-join-end-2 : tie.Need-part-join-end-2 Inv-loop μ-loop
 part-join-end-2 c = let h = inside (c .before) in omega (arith, h, c .before .before .loop .inv .2)
 
--- src/lib.rt:169:55
 mul-join-3 : tie.Need-mul-join-3 Inv-loop μ-loop
 mul-join-3 c = let h = inside (c .before .before) in search needs
 
--- src/lib.rt:169:55
 sub-join-3 : tie.Need-sub-join-3 Inv-loop μ-loop
 sub-join-3 c = omega arith
 
--- src/lib.rt:169:55
 part-join-start-3 : tie.Need-part-join-start-3 Inv-loop μ-loop
 part-join-start-3 c = let h = inside (c .before .before) in omega (arith, h, c .before .before .before .loop .inv .2)
 
--- src/lib.rt:169:55
 part-join-end-3 : tie.Need-part-join-end-3 Inv-loop μ-loop
 part-join-end-3 c = let h = inside (c .before .before) in omega (arith, h, c .before .before .before .loop .inv .2)
 
--- src/lib.rt:169:9
 join-requires : tie.Need-join-requires Inv-loop μ-loop
 join-requires c κs = let l = c .before .before .before .before .loop in let s = c .before .before .before .before .before in let xs = now (s .args .kept) in let n = s .args .half in let h = inside (c .before .before .before) in let e = a-long xs (l .base) n h in (
   rw e (s .pre .0),
@@ -176,21 +157,17 @@ join-requires c κs = let l = c .before .before .before .before .loop in let s =
   cells-long (l .cells) (l .base) n (omega (arith, l .inv .2)) ∙ ap (λ (m : ℕ). 2 * m) (sym e),
 )
 
--- src/lib.rt:166:5
 loop-less : tie.Need-loop-less Inv-loop μ-loop
 loop-less c = let h = inside (c .before .before .before .before .before) in omega (arith, c .before .before .before .before .before .before .before .pre .0 .some)
 
--- src/lib.rt:166:5
 loop-again : tie.Need-loop-again Inv-loop μ-loop
 loop-again c = let l = c .before .before .before .before .before .before .loop in let s = c .before .before .before .before .before .before .before in let h = inside (c .before .before .before .before .before) in
     let w = pair-written (now (s .args .kept)) (l .base) (s .args .half) h (s .pre .0 .some) (l .inv .1) (l .cells) _ (l .inv .2) (l .inv .3) (c .before .join .ensures) in
     (omega arith, next-pair (s .args .half) (l .base) (l .inv .1), w .0, w .1)
 
--- src/lib.rt:161:1
 same-length : tie.Need-same-length Inv-loop μ-loop
 same-length c = c .before .loop .inv .2 ∙ sym (c .before .before .pre .3)
 
--- src/lib.rt:161:1
 returns : tie.Need-returns Inv-loop μ-loop
 unfolding level
 returns c = let l = c .before .loop in filled-all (pos 0) _ (l .cells) _ (l .inv .2) (λ k h. l .inv .3 k (omega (arith, l .inv .2)))

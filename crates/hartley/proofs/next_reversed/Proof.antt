@@ -1,7 +1,6 @@
 -- `next_reversed` is right because each round hands the carry on to the digit after it, as `nextReversed` does.
-use borrow.Author.Needs.{needs}
 use mathlib.Core.Path.{_≡_, refl, sym, _∙_, ap}
-use Prim.Native.Nat.{ℕ, zero, suc, _+_, _*_, _-_, _/_, _≤_, _<_, _^_}
+use Prim.Native.Nat.{ℕ, zero, suc, _+_, _-_, _/_, _≤_, _<_, _^_}
 use native.Mathlib.Omega.{arith}
 use lib.Pow.{pow-pos}
 use Rattle.ints.proofs.Powers.{two-pow}
@@ -9,8 +8,6 @@ use Rattle.hartley.specs.Workers.{nextReversed}
 use Rattle.hartley.proofs.Counting.{next-low, next-carry, next-none}
 use Rattle.hartley.proofs.next_reversed.Statement.{statement}
 use Rattle.hartley.proofs.next_reversed.Tie as tie
-use Rattle.hartley.proofs.next_reversed.Reads as reads
-use Rattle.hartley.proofs.next_reversed.Lts as lts
 
 -- the carry has come to `digit`, which is the highest of the digits that are left
 record Carried (p digits rest digit : ℕ) : Type 0 where
@@ -59,27 +56,21 @@ Inv-loop digits highest rest₀ digit₀ rest digit = (digit ≤ 512) × ((p : �
 abbrev μ-loop : tie.MeasureT-loop
 μ-loop digits highest rest₀ digit₀ rest digit = digit
 
--- src/lib.rt:147:5
 loop-holds : tie.Need-loop-holds Inv-loop μ-loop
 loop-holds c = (c .pre, λ p e. record { left = p; at = e; same = refl })
 
--- src/lib.rt:149:20
 add-result : tie.Need-add-result Inv-loop μ-loop
 add-result c = omega (arith, c .before .before .loop .inv .0)
 
--- src/lib.rt:149:13
 returns : tie.Need-returns Inv-loop μ-loop
 returns c = let l = c .before .before .loop in λ p e. ends p _ _ _ (l .inv .1 p e) (omega arith) (omega arith)
 
--- src/lib.rt:147:5
 loop-less : tie.Need-loop-less Inv-loop μ-loop
 loop-less c = omega arith
 
--- src/lib.rt:147:5
 loop-again : tie.Need-loop-again Inv-loop μ-loop
 loop-again c = let l = c .before .before .loop in (omega (arith, l .inv .0), λ p e. goes-on p _ _ _ (l .inv .1 p e) (omega arith) (omega arith))
 
--- src/lib.rt:141:1
 returns-2 : tie.Need-returns-2 Inv-loop μ-loop
 returns-2 c = let l = c .before .loop in λ p e. all-carried p _ _ _ (l .inv .1 p e) (omega arith)
 

@@ -1,7 +1,7 @@
 -- `permute` is right because it counts up in reversed digits beside the places.
-use borrow.Author.Needs.{needs, sfits-of}
-use mathlib.Core.Path.{_≡_, refl, sym, _∙_, ap}
-use Prim.Native.Nat.{ℕ, _+_, _-_, _/_, _≤_, _<_, _^_}
+use borrow.Author.Needs.{sfits-of}
+use mathlib.Core.Path.{_≡_, sym, _∙_, ap}
+use Prim.Native.Nat.{ℕ, _-_, _/_, _≤_, _<_, _^_}
 use native.Mathlib.Nat.{not-suc-le-zero}
 use native.Mathlib.Omega.{arith}
 use lib.IntN.{pos}
@@ -17,9 +17,6 @@ use Rattle.hartley.specs.Workers.{nextReversed}
 use Rattle.hartley.proofs.Counting.{next-reversed}
 use Rattle.hartley.proofs.permute.Statement.{statement}
 use Rattle.hartley.proofs.permute.Tie as tie
-use Rattle.hartley.proofs.permute.Reads as reads
-use Rattle.hartley.proofs.permute.Lts as lts
-use Rattle.hartley.proofs.next_reversed.Reads as next-reversed-reads
 
 abbrev Inv-loop : tie.InvT-loop
 Inv-loop kept cells₀ p highest from₀ i₀ cells from i =
@@ -35,39 +32,30 @@ few c = pow-mono (c .before .before .pre .0)
 inside : (c : tie.In-loop Inv-loop μ-loop) → c .before .loop .from < 2 ^ c .before .before .args .p
 inside c = rw (c .before .loop .inv .2) (reversed-lt (c .before .before .args .p) (c .before .loop .i))
 
--- src/lib.rt:133:5
 loop-holds : tie.Need-loop-holds Inv-loop μ-loop
 loop-holds c = let p = c .args .p in (omega arith, c .pre .2, sym (reversed-zero p), λ i h. absurd (not-suc-le-zero h))
 
--- src/lib.rt:134:20
 mul-cells : tie.Need-mul-cells Inv-loop μ-loop
 mul-cells c = omega (arith, few c, inside c)
 
--- src/lib.rt:134:20
 shared-slice-copy-out-cells : tie.Need-shared-slice-copy-out-cells Inv-loop μ-loop
 shared-slice-copy-out-cells c = omega (arith, inside c, c .before .before .pre .1)
 
--- src/lib.rt:134:9
 mul-t12 : tie.Need-mul-t12 Inv-loop μ-loop
 mul-t12 c = omega (arith, few (c .before))
 
--- src/lib.rt:134:9
 slice-set-from-cells : tie.Need-slice-set-from-cells Inv-loop μ-loop
 slice-set-from-cells c = omega (arith, c .before .before .loop .inv .1)
 
--- src/lib.rt:135:9
 next-reversed-requires : tie.Need-next-reversed-requires Inv-loop μ-loop
 next-reversed-requires c κs = omega (arith, few (c .before), c .before .before .before .pre .1)
 
--- src/lib.rt:136:9
 add-i : tie.Need-add-i Inv-loop μ-loop
 add-i c = omega (arith, few (c .before .before))
 
--- src/lib.rt:133:5
 loop-less : tie.Need-loop-less Inv-loop μ-loop
 loop-less c = omega arith
 
--- src/lib.rt:133:5
 loop-again : tie.Need-loop-again Inv-loop μ-loop
 loop-again c = let l = c .before .before .before .loop in let s = c .before .before .before .before in let p = s .args .p in (
   omega arith,
@@ -77,11 +65,9 @@ loop-again c = let l = c .before .before .before .loop in let s = c .before .bef
       (toZ-ofZ (sfits-of (c .before .cells .given)) ∙ ap (cell (now (s .args .kept))) (l .inv .2)) (l .inv .3),
 )
 
--- src/lib.rt:126:1
 same-length : tie.Need-same-length Inv-loop μ-loop
 same-length c = c .before .loop .inv .1 ∙ sym (c .before .before .pre .2)
 
--- src/lib.rt:126:1
 returns : tie.Need-returns Inv-loop μ-loop
 unfolding permuted
 returns c = let l = c .before .loop in filled-all (pos 0) _ (l .cells) _ (l .inv .1) (λ k h. l .inv .3 k (omega (arith, l .inv .1)))

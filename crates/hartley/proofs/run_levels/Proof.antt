@@ -1,5 +1,4 @@
 -- `run_levels` is right because after each round the cells are those after one more level, and halves and stride fit the next one.
-use borrow.Author.Needs.{needs}
 use mathlib.Core.Path.{_≡_, refl, sym, _∙_, ap, ap₂, subst}
 use mathlib.Core.List.{List}
 use Prim.Native.Nat.{ℕ, suc, _+_, _*_, _-_, _/_, _%_, _≤_, _<_, _^_}
@@ -22,10 +21,6 @@ use Rattle.spectrum.proofs.Distance.{whole-turn}
 use Rattle.hartley.specs.Workers.{turned, Joins, Within}
 use Rattle.hartley.proofs.run_levels.Statement.{statement}
 use Rattle.hartley.proofs.run_levels.Tie as tie
-use Rattle.hartley.proofs.run_levels.Reads as reads
-use Rattle.hartley.proofs.run_levels.Lts as lts
-use Rattle.hartley.proofs.copy.Reads as copy-reads
-use Rattle.hartley.proofs.join_level.Reads as join-level-reads
 
 abbrev Inv-loop : tie.InvT-loop
 Inv-loop cells₀ kept₀ cosines sines p half₀ stride₀ level₀ cells kept half stride level =
@@ -81,16 +76,13 @@ next-level : (L half : ℕ) (xs kept ys : List ℤ) → ys ≡ level quotient ta
 unfolding levels
 next-level L half xs kept ys e f g = rw (add-one L) (e ∙ ap₂ (level quotient tableCosine tableSine) f g)
 
--- src/lib.rt:151:5
 loop-holds : tie.Need-loop-holds Inv-loop μ-loop
 unfolding levels
 loop-holds c = let q = c .pre in (omega arith, refl, ap length (q .3) ∙ length-tabulate (2 ^ c .args .p / 2) _ ∙ ap (λ (x : ℕ). 2 ^ x / 2) (sym (sub-zero (c .args .p))), refl, q .2)
 
--- src/lib.rt:152:9
 copy-requires : tie.Need-copy-requires Inv-loop μ-loop
 copy-requires c κs = let l = c .before .before .before .loop .inv in let s = c .before .before .before .before in l .4 ∙ sym (ap length (l .3) ∙ as-many _ _ ∙ s .pre .1)
 
--- src/lib.rt:153:9
 join-level-requires : tie.Need-join-level-requires Inv-loop μ-loop
 join-level-requires c κs = let l = c .before .before .before .before .before .before .before .loop in let s = c .before .before .before .before .before .before .before .before in let p = s .args .p in let e = c .before .before .before .copy .ensures in
     let long = ap length (l .inv .3) ∙ as-many _ _ ∙ s .pre .1 in (
@@ -100,19 +92,15 @@ join-level-requires c κs = let l = c .before .before .before .before .before .b
       sym (ap length e),
     )
 
--- src/lib.rt:154:16
 mul-half : tie.Need-mul-half Inv-loop μ-loop
 mul-half c = let l = c .before .before .before .before .before .before .before .before .before .loop in omega (arith, l .inv .1, pow-mono {i = l .level} {j = 10} (omega (arith, c .before .before .before .before .before .before .before .before .before .before .pre .0)))
 
--- src/lib.rt:156:9
 add-level : tie.Need-add-level Inv-loop μ-loop
 add-level c = omega (arith, c .before .before .before .before .before .before .before .before .before .before .pre .0)
 
--- src/lib.rt:151:5
 loop-less : tie.Need-loop-less Inv-loop μ-loop
 loop-less c = omega arith
 
--- src/lib.rt:151:5
 loop-again : tie.Need-loop-again Inv-loop μ-loop
 loop-again c = let l = c .before .before .before .before .before .before .before .before .before .loop in let s = c .before .before .before .before .before .before .before .before .before .before in let k = c .before .before .before .before .before .copy .ensures in let j = c .before .join-level .ensures in
     let below : l .level < s .args .p = omega arith in (
@@ -123,15 +111,12 @@ loop-again c = let l = c .before .before .before .before .before .before .before
       ap length (k ∙ l .inv .3) ∙ as-many (l .level) (now (s .args .cells)) ∙ s .pre .1,
     )
 
--- src/lib.rt:144:1
 same-length : tie.Need-same-length Inv-loop μ-loop
 same-length c = ap length (c .before .loop .inv .3) ∙ as-many _ _
 
--- src/lib.rt:144:1
 same-length-2 : tie.Need-same-length-2 Inv-loop μ-loop
 same-length-2 c = c .before .loop .inv .4 ∙ sym (c .before .before .pre .2)
 
--- src/lib.rt:144:1
 returns : tie.Need-returns Inv-loop μ-loop
 returns c = let l = c .before .loop in let s = c .before .before in let e : l .level ≡ s .args .p = omega (arith, l .inv .0) in
     l .inv .3 ∙ ap (λ (k : ℕ). levels quotient tableCosine tableSine k (now (s .args .cells))) e

@@ -1,8 +1,8 @@
 -- `transform` is right because it permutes a copy of the cells and runs the levels on them, with cosines and sines that `fill_turn` has set.
 use borrow.Author.Needs.{needs}
-use mathlib.Core.Path.{_≡_, refl, sym, _∙_, ap, subst}
+use mathlib.Core.Path.{_≡_, refl, sym, _∙_, ap}
 use mathlib.Core.List.{List, _++_}
-use Prim.Native.Nat.{ℕ, _+_, _*_, _/_, _≤_, _<_, _^_}
+use Prim.Native.Nat.{ℕ, _/_, _≤_, _<_}
 use native.Mathlib.Omega.{arith}
 use lib.IntN.{ℤ}
 use lib.ListN.{length, take, length-append}
@@ -17,12 +17,6 @@ use Rattle.spectrum.proofs.Demand3.{forward-room}
 use Rattle.hartley.specs.Workers.{Ready, turned, Within}
 use Rattle.hartley.proofs.transform.Statement.{statement}
 use Rattle.hartley.proofs.transform.Tie as tie
-use Rattle.hartley.proofs.transform.Reads as reads
-use Rattle.hartley.proofs.transform.Lts as lts
-use Rattle.hartley.proofs.copy.Reads as copy-reads
-use Rattle.hartley.proofs.fill_turn.Reads as fill-turn-reads
-use Rattle.hartley.proofs.permute.Reads as permute-reads
-use Rattle.hartley.proofs.run_levels.Reads as run-levels-reads
 
 -- ---- the front of a longer list, to which something was written
 
@@ -45,75 +39,57 @@ few c = rw (c .pre .long) (pow-mono (c .pre .most))
 some : (c : tie.Start) → 0 < length (now (c .args .cells))
 some c = rw (c .pre .long) (pow-pos (c .args .p))
 
--- src/lib.rt:92:15
 array-borrow-prefix-cosines : tie.Need-array-borrow-prefix-cosines
 array-borrow-prefix-cosines c = omega (arith, few c)
 
--- src/lib.rt:92:15
 slice-aggregate-fill-turn : tie.Need-slice-aggregate-fill-turn
 slice-aggregate-fill-turn c = sym (length-take-le _ _ (omega (arith, few (c .before))))
 
--- src/lib.rt:92:38
 array-borrow-prefix-sines : tie.Need-array-borrow-prefix-sines
 array-borrow-prefix-sines c = omega (arith, few (c .before))
 
--- src/lib.rt:92:38
 slice-aggregate-fill-turn-2 : tie.Need-slice-aggregate-fill-turn-2
 slice-aggregate-fill-turn-2 c = sym (length-take-le _ _ (omega (arith, few (c .before .before))))
 
--- src/lib.rt:92:5
 fill-turn-requires : tie.Need-fill-turn-requires
 fill-turn-requires c κs = let s = c .before .before in (some s, length-take-le _ _ (omega (arith, few s)), length-take-le _ _ (omega (arith, few s)))
 
--- src/lib.rt:94:17
 array-borrow-prefix-kept : tie.Need-array-borrow-prefix-kept
 array-borrow-prefix-kept c = few (c .before .before .before .before .before .before)
 
--- src/lib.rt:94:17
 slice-aggregate-copy : tie.Need-slice-aggregate-copy
 slice-aggregate-copy c = sym (length-take-le _ _ (few (c .before .before .before .before .before .before .before)))
 
--- src/lib.rt:94:5
 copy-requires : tie.Need-copy-requires
 copy-requires c κs = length-take-le _ _ (few (c .before .before .before .before .before .before .before))
 
--- src/lib.rt:95:13
 array-share-prefix-kept : tie.Need-array-share-prefix-kept
 array-share-prefix-kept c = front-fits _ _ _ refl (c .before .copy .ensures)
 
--- src/lib.rt:95:13
 slice-aggregate-permute : tie.Need-slice-aggregate-permute
 slice-aggregate-permute c = sym (ap length (front _ _ _ refl (c .before .before .copy .ensures)))
 
--- src/lib.rt:95:5
 permute-requires : tie.Need-permute-requires
 permute-requires c κs = let s = c .before .before .before .before .before .before .before .before .before .before .before in (s .pre .most, ap length (front _ _ _ refl (c .before .before .before .copy .ensures)) ∙ s .pre .long, s .pre .long)
 
--- src/lib.rt:96:23
 array-borrow-prefix-kept-2 : tie.Need-array-borrow-prefix-kept-2
 array-borrow-prefix-kept-2 c = front-fits _ _ _ refl (c .before .before .before .before .before .before .copy .ensures)
 
--- src/lib.rt:96:23
 slice-aggregate-run-levels : tie.Need-slice-aggregate-run-levels
 slice-aggregate-run-levels c = sym (ap length (front _ _ _ refl (c .before .before .before .before .before .before .before .copy .ensures)))
 
--- src/lib.rt:96:39
 array-share-prefix-cosines : tie.Need-array-share-prefix-cosines
 array-share-prefix-cosines c = front-fits _ _ _ (turned-many tableCosine _) (c .before .before .before .before .before .before .before .before .before .before .before .before .fill-turn .ensures .0)
 
--- src/lib.rt:96:39
 slice-aggregate-run-levels-2 : tie.Need-slice-aggregate-run-levels-2
 slice-aggregate-run-levels-2 c = sym (ap length (front _ _ _ (turned-many tableCosine _) (c .before .before .before .before .before .before .before .before .before .before .before .before .before .fill-turn .ensures .0)) ∙ turned-many tableCosine _)
 
--- src/lib.rt:96:58
 array-share-prefix-sines : tie.Need-array-share-prefix-sines
 array-share-prefix-sines c = front-fits _ _ _ (turned-many tableSine _) (c .before .before .before .before .before .before .before .before .before .before .before .before .before .fill-turn .ensures .1)
 
--- src/lib.rt:96:58
 slice-aggregate-run-levels-3 : tie.Need-slice-aggregate-run-levels-3
 slice-aggregate-run-levels-3 c = sym (ap length (front _ _ _ (turned-many tableSine _) (c .before .before .before .before .before .before .before .before .before .before .before .before .before .before .fill-turn .ensures .1)) ∙ turned-many tableSine _)
 
--- src/lib.rt:96:5
 run-levels-requires : tie.Need-run-levels-requires
 run-levels-requires c κs = let s = c .before .before .before .before .before .before .before .before .before .before .before .before .before .before .before .before .before in let xs = now (s .args .cells) in let p = s .args .p in let n = s .pre .long in let k = front (length xs) _ _ refl (c .before .before .before .before .before .before .before .before .before .copy .ensures) in
     let e = c .before .before .before .before .before .permute .ensures ∙ ap (permuted p) k in (
@@ -125,11 +101,9 @@ run-levels-requires c κs = let s = c .before .before .before .before .before .b
       λ L h. record { size = λ i. rw e (forward-room L p h (s .pre .most) xs (s .pre .quiet .size) i) },
     )
 
--- src/lib.rt:85:1
 same-length : tie.Need-same-length
 same-length c = search needs
 
--- src/lib.rt:85:1
 returns : tie.Need-returns
 unfolding forward forwardAt transformed
 returns c = let s = c .before .before .before .before .before .before .before .before .before .before .before .before .before .before .before .before .before .before .before .before in let xs = now (s .args .cells) in let p = s .args .p in
