@@ -7,16 +7,14 @@ use native.Mathlib.Nat.{mul-le-mul-left, div-lt-iff-lt-mul, div-eq-of-lt}
 use native.Mathlib.Omega.{arith}
 use lib.IntN.{ℤ, pos, negℤ, natAbs, _-ℤ_, _*ℤ_}
 use lib.Pow.{pow-pos, pow-add}
-use Rattle.ints.proofs.Ring.{ring, quotes, sub-zero}
+use Rattle.ints.proofs.Ring.{ring, quotes}
 use Rattle.ints.proofs.Abs.{abs-neg, abs-times}
 use Rattle.ints.proofs.Powers.{two-pow}
 use Rattle.ints.proofs.Floor.{floor-pos, half-added-near}
-use Rattle.ints.proofs.Rounding.{multiple-zero}
 use Rattle.cosine.specs.Cosine.{cosine, sine, fine, quarterTable}
 use Rattle.cosine.proofs.Turn.{over-cosine, over-sine}
 use Rattle.cosine.proofs.HalfAngle.{fine-end}
 use Rattle.cosine.proofs.FineQuarter.{quarter-size}
-use Rattle.cosine.proofs.FineTurn.{quarterUnit, cosine-quarters, sine-quarters}
 
 -- ---- f / 2h to the nearest, over plain numbers
 
@@ -92,17 +90,3 @@ module _ (s : ℕ) (fits : s < 60) where
 
   pub table-sine-size : (j : ℕ) → natAbs (sine (quarterTable s) j) ≤ 2 ^ s
   table-sine-size = over-sine (quarterTable s) fine (λ t f. natAbs t ≤ 2 ^ s) (λ t f h. rw abs-neg h) entry-size
-
-  -- ---- at quarter turns the table is exact
-
-  table-exact : (t f p : ℤ) → f ≡ p *ℤ pos (2 ^ 60) → Near t f → t ≡ p *ℤ pos (2 ^ s)
-  table-exact t f p e h = sub-zero t (p *ℤ pos (2 ^ s)) (multiple-zero (t -ℤ p *ℤ pos (2 ^ s)) (2 ^ 60) (omega arith) (omega (arith, rw (e, out t p (pos (2 ^ 60)) (pos (2 ^ s))) at h)))
-    where
-      out : (t p u q : ℤ) → t *ℤ u -ℤ p *ℤ u *ℤ q ≡ (t -ℤ p *ℤ q) *ℤ u
-      out t p u q = ring (t ∷ p ∷ u ∷ q ∷ []) (search quotes depth 40) tt
-
-  pub cosine-exact : (m : ℕ) → cosine (quarterTable s) (m * 256) ≡ quarterUnit m .0 *ℤ pos (2 ^ s)
-  cosine-exact m = table-exact _ _ (quarterUnit m .0) (cosine-quarters m) (cosine-near (m * 256))
-
-  pub sine-exact : (m : ℕ) → sine (quarterTable s) (m * 256) ≡ quarterUnit m .1 *ℤ pos (2 ^ s)
-  sine-exact m = table-exact _ _ (quarterUnit m .1) (sine-quarters m) (sine-near (m * 256))

@@ -12,12 +12,6 @@ use Rattle.ints.specs.Tabulate.{tabulate, Filled}
 use Rattle.ints.proofs.Tables.{getD-tabulate, length-tabulate}
 
 module _ {A : Type 0} (d : A) (f : ℕ → A) where
-  pub filled-none : (xs : List A) → Filled d f 0 xs
-  filled-none xs i h = absurd (never h)
-    where
-      never : i < 0 → ⊥
-      never h = omega arith
-
   -- entries other than the one that is set
   other : (xs : List A) (n : ℕ) (x : A) (i : ℕ) → i < n → getD (set xs n x) i d ≡ getD xs i d
   other xs n x i h = getD-set-other xs n i x d (λ e. lt-irrefl n (subst (λ (m : ℕ). m < n) e h))

@@ -80,21 +80,3 @@ reversed-twice (suc P) t h = ap (reversed (suc P)) (reversed-suc P t) ∙ revers
 pub cell-goes : (P : ℕ) (xs : List ℤ) (t : ℕ) → t < 2 ^ P → cell (permuted P xs) (reversed P t) ≡ cell xs t
 unfolding permuted
 cell-goes P xs t h = getD-tabulate (2 ^ P) (λ i. cell xs (reversed P i)) (pos 0) (reversed P t) (reversed-lt P t) ∙ ap (cell xs) (reversed-twice P t h)
-
--- ---- a table of the places is filled from the place of half the number
-
-pub reversed-halved : (P t : ℕ) → t < 2 ^ P → reversed P t ≡ reversed P (t / 2) / 2 + t % 2 * (2 ^ P / 2)
-reversed-halved zero t h = unfold reversed in omega arith
-reversed-halved (suc P) t h = reversed-suc P t ∙ go (reversed (suc P) (t / 2)) (reversed P (t / 2)) (2 ^ suc P) (two-pow P) half
-  where
-    half : reversed (suc P) (t / 2) ≡ 2 * reversed P (t / 2) + 0
-    half = ap (reversed (suc P)) alone ∙ reversed-first P 0 (t / 2) (omega arith) (omega (arith, two-pow P))
-      where
-        alone : t / 2 ≡ 0 * 2 ^ P + t / 2
-        alone = omega arith
-
-    go : (r s n : ℕ) → n ≡ 2 * 2 ^ P → r ≡ 2 * s + 0 → t % 2 * 2 ^ P + s ≡ r / 2 + t % 2 * (n / 2)
-    go r s n e f = omega (arith, ap (λ (x : ℕ). t % 2 * x) whole)
-      where
-        whole : n / 2 ≡ 2 ^ P
-        whole = omega arith
