@@ -8,8 +8,8 @@ use lib.IntN.{ℤ, natAbs}
 use lib.ListN.{length, getD}
 use Rattle.ints.specs.Tabulate.{tabulate}
 use Rattle.refusal.specs.BlockKinds.{TURN}
-use Rattle.spectrum.specs.Levels.{cell}
-use Rattle.spectrum.specs.Spectrum.{tableCosine, tableSine}
+use Rattle.spectrum.specs.Levels.{cell, levels}
+use Rattle.spectrum.specs.Spectrum.{quotient, tableCosine, tableSine}
 
 -- no cell is above b in magnitude
 pub record Within (b : ℕ) (xs : List ℤ) : Type 0 where
@@ -31,7 +31,16 @@ pub record Ready (P : ℕ) (xs : List ℤ) : Type 0 where
 abbrev pub turned : (ℕ → ℤ) → ℕ → List ℤ
 turned trig N = tabulate (N / 2) (λ j. trig (j * (TURN / N)))
 
--- every stride-th of these cosines and sines belongs to the next line where halves of n cells are joined; they are `apart` steps of the turn apart
+-- the levels of 2^P cells can run: there is a list as long to keep the cells in, and before no level is a cell too large
+pub record Runs (P : ℕ) (cells kept cosines sines : List ℤ) : Type 0 where
+  pub most : P ≤ 10
+  pub long : length cells ≡ 2 ^ P
+  pub as-long : length kept ≡ 2 ^ P
+  pub at-cosines : cosines ≡ turned tableCosine (2 ^ P)
+  pub at-sines : sines ≡ turned tableSine (2 ^ P)
+  pub quiet : (L : ℕ) → L ≤ P → Within (2 ^ 40) (levels quotient tableCosine tableSine L cells)
+
+-- halves of n cells can be joined: every stride-th of the cosines and sines belongs to one line more; they are `apart` steps of the turn apart
 pub record Joins (n stride : ℕ) (cosines sines : List ℤ) : Type 0 where
   pub some : 0 < n
   pub apart : ℕ

@@ -15,7 +15,7 @@ ghost use Rattle.spectrum.specs.Levels.{cell, level, levels, line, permuted};
 ghost use Rattle.spectrum.specs.Spectrum.{backward, forward, quotient, tableCosine, tableSine};
 ghost use Rattle.spectrum.specs.Distance.{WithinE};
 ghost use Rattle.hartley.specs.Calls.{answer, testedSpectrum, leaves, notLoud, testedSamples, tested};
-ghost use Rattle.hartley.specs.Workers.{Joins, nextReversed, Ready, turned, Within};
+ghost use Rattle.hartley.specs.Workers.{Joins, nextReversed, Ready, Runs, turned, Within};
 ghost use Rattle.hartley.specs.declared.Answer.the-variants.{Done};
 
 // A sample lies between these two (16 bits).
@@ -92,23 +92,29 @@ fn transform(cells: &mut [i64], p: usize)
     requires { ⌜ Ready p (now cells) ⌝ }
     ensures { λ _. ⌜ now (cells .exit) ≡ forward p (now (cells .entry)) ⌝ }
 {
-    let n = cells.len();
+    let len = cells.len();
     let mut cosines = [0i64; BlockKind::LARGEST / 2];
     let mut sines = [0i64; BlockKind::LARGEST / 2];
-    fill_turn(&mut cosines[..n / 2], &mut sines[..n / 2], n);
+    fill_turn(&mut cosines[..len / 2], &mut sines[..len / 2], len);
     let mut kept = [0i64; BlockKind::LARGEST];
-    copy(cells, &mut kept[..n]);
-    permute(&kept[..n], cells, p);
-    run_levels(cells, &mut kept[..n], &cosines[..n / 2], &sines[..n / 2], p);
+    copy(cells, &mut kept[..len]);
+    permute(&kept[..len], cells, p);
+    run_levels(
+        cells,
+        &mut kept[..len],
+        &cosines[..len / 2],
+        &sines[..len / 2],
+        p,
+    );
 }
 
-// The table's cosines and sines for a block of n cells: n/2 each, 1,024 / n steps apart. The constant table is read here alone.
-fn fill_turn(cosines: &mut [i64], sines: &mut [i64], n: usize)
-    requires { ⌜ (0 < n) × (length (now cosines) ≡ n / 2) × (length (now sines) ≡ n / 2) ⌝ }
-    ensures { λ _. ⌜ (now (cosines .exit) ≡ turned tableCosine n) × (now (sines .exit) ≡ turned tableSine n) ⌝ }
+// The table's cosines and sines for a block of len cells: len / 2 each, 1,024 / len steps apart. The constant table is read here alone.
+fn fill_turn(cosines: &mut [i64], sines: &mut [i64], len: usize)
+    requires { ⌜ (0 < len) × (length (now cosines) ≡ len / 2) × (length (now sines) ≡ len / 2) ⌝ }
+    ensures { λ _. ⌜ (now (cosines .exit) ≡ turned tableCosine len) × (now (sines .exit) ≡ turned tableSine len) ⌝ }
 {
     let quarter = cosine::quarter_table();
-    let apart = BlockKind::TURN / n;
+    let apart = BlockKind::TURN / len;
     let mut j = 0;
     while j < cosines.len() {
         cosines[j] = cosine::cosine(&quarter, j * apart);
@@ -163,37 +169,37 @@ fn next_reversed(digits: usize, highest: usize) -> usize
 
 // Levels 1 to p. The cells before each level are kept aside, so no line is written before its mirror partner has been read.
 fn run_levels(cells: &mut [i64], kept: &mut [i64], cosines: &[i64], sines: &[i64], p: usize)
-    requires { ⌜ (p ≤ 10) × (length (now cells) ≡ 2 ^ p) × (length (now kept) ≡ 2 ^ p) × (now cosines ≡ turned tableCosine (2 ^ p)) × (now sines ≡ turned tableSine (2 ^ p)) × ((L : ℕ) → L ≤ p → Within (2 ^ 40) (levels quotient tableCosine tableSine L (now cells))) ⌝ }
+    requires { ⌜ Runs p (now cells) (now kept) (now cosines) (now sines) ⌝ }
     ensures { λ _. ⌜ now (cells .exit) ≡ levels quotient tableCosine tableSine p (now (cells .entry)) ⌝ }
 {
-    let mut half = 1;
+    let mut n = 1;
     let mut stride = cosines.len();
     let mut level = 0;
     while level < p {
         copy(cells, kept);
-        join_level(kept, cells, cosines, sines, half, stride);
-        half = 2 * half;
+        join_level(kept, cells, cosines, sines, n, stride);
+        n = 2 * n;
         stride = stride / 2;
         level += 1;
     }
 }
 
-// One level: joins neighbouring halves, each of `half` cells.
+// One level: joins neighbouring halves a and b of n cells.
 fn join_level(
     kept: &[i64],
     cells: &mut [i64],
     cosines: &[i64],
     sines: &[i64],
-    half: usize,
+    n: usize,
     stride: usize,
 )
-    requires { ⌜ Joins half stride (now cosines) (now sines) × Within (2 ^ 40) (now kept) × (length (now kept) % (2 * half) ≡ 0) × (length (now cells) ≡ length (now kept)) ⌝ }
-    ensures { λ _. ⌜ now (cells .exit) ≡ level quotient tableCosine tableSine half (now (kept .entry)) ⌝ }
+    requires { ⌜ Joins n stride (now cosines) (now sines) × Within (2 ^ 40) (now kept) × (length (now kept) % (2 * n) ≡ 0) × (length (now cells) ≡ length (now kept)) ⌝ }
+    ensures { λ _. ⌜ now (cells .exit) ≡ level quotient tableCosine tableSine n (now (kept .entry)) ⌝ }
 {
     let mut base = 0;
     while base < kept.len() {
-        let middle = base + half;
-        let end = middle + half;
+        let middle = base + n;
+        let end = middle + n;
         join(
             &kept[base..middle],
             &kept[middle..end],

@@ -38,7 +38,7 @@ loop-holds : tie.Need-loop-holds Inv-loop μ-loop
 loop-holds c = let p = c .before .pre in (omega arith, p .1, p .2, λ i h. absurd (not-suc-le-zero h), λ i h. absurd (not-suc-le-zero h))
 
 mul-cosine : tie.Need-mul-cosine Inv-loop μ-loop
-mul-cosine c = omega (arith, step-small (c .before .before .loop .j) (c .before .before .before .before .args .n) (omega arith))
+mul-cosine c = omega (arith, step-small (c .before .before .loop .j) (c .before .before .before .before .args .len) (omega arith))
 
 cosine-requires : tie.Need-cosine-requires Inv-loop μ-loop
 cosine-requires c κs = search needs
@@ -50,7 +50,7 @@ slice-set-from-sines : tie.Need-slice-set-from-sines Inv-loop μ-loop
 slice-set-from-sines c = omega arith
 
 mul-sine : tie.Need-mul-sine Inv-loop μ-loop
-mul-sine c = omega (arith, step-small (c .before .before .before .before .loop .j) (c .before .before .before .before .before .before .args .n) (omega arith))
+mul-sine c = omega (arith, step-small (c .before .before .before .before .loop .j) (c .before .before .before .before .before .before .args .len) (omega arith))
 
 sine-requires : tie.Need-sine-requires Inv-loop μ-loop
 sine-requires c κs = search needs
@@ -68,7 +68,7 @@ loop-less : tie.Need-loop-less Inv-loop μ-loop
 loop-less c = omega arith
 
 loop-again : tie.Need-loop-again Inv-loop μ-loop
-loop-again c = let l = c .before .before .before .before .before .loop in let n = c .before .before .before .before .before .before .before .args .n in
+loop-again c = let l = c .before .before .before .before .before .loop in let n = c .before .before .before .before .before .before .before .args .len in
     let quarter = c .before .before .before .before .before .before .quarter-table .ensures in let step = l .j * (TURN / n) in (
       omega arith,
       simp length-set (l .inv .1),

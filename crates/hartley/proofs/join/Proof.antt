@@ -32,6 +32,17 @@ Inv-loop a b cells₀ cosines sines stride n v₀ mirror₀ step₀ cells v mirr
 abbrev μ-loop : tie.MeasureT-loop
 μ-loop a b cells₀ cosines sines stride n v₀ mirror₀ step₀ cells v mirror step = length a - v
 
+-- ---- the round to which a point of the loop's body belongs: after the sum, after the first line, after the second
+
+abbrev of-products : tie.After-products Inv-loop μ-loop → tie.In-loop Inv-loop μ-loop
+of-products c = c .before .before .before .before .before
+
+abbrev of-first : tie.After-plus-quotient Inv-loop μ-loop → tie.In-loop Inv-loop μ-loop
+of-first c = of-products (c .before .before)
+
+abbrev of-second : tie.After-plus-quotient2 Inv-loop μ-loop → tie.In-loop Inv-loop μ-loop
+of-second c = of-first (c .before .before)
+
 -- ---- what the machine reads back
 
 read-small : (z : ℤ) (b : ℕ) → b < 2 ^ 63 → natAbs z ≤ b → natAbs (toZ w64 (ofZ w64 z)) ≤ b
@@ -54,9 +65,9 @@ minus-is z = ring (z ∷ []) (search quotes) tt
 here : (c : tie.In-loop Inv-loop μ-loop) → let s = c .before .before .args in let l = c .before .loop in Places (length (now (s .a))) (s .stride) (l .v) (l .mirror) (l .step)
 here c = let l = c .before .loop in places (c .before .before .pre .0) (l .v) (l .mirror) (l .step) (c .loop-test .taken) (l .inv .1) (l .inv .2)
 
-sum-read : (c : tie.After-products Inv-loop μ-loop) → let i = c .before .before .before .before .before in let s = i .before .before .args in let l = i .before .loop in
+sum-read : (c : tie.After-products Inv-loop μ-loop) → let i = of-products c in let s = i .before .before .args in let l = i .before .loop in
     toZ w64 (ofZ w64 (c .products .result)) ≡ cell (now (s .b)) (l .v) *ℤ cell (now (s .cosines)) (l .step) +ℤ cell (now (s .b)) (l .mirror) *ℤ cell (now (s .sines)) (l .step)
-sum-read c = let i = c .before .before .before .before .before in let s = i .before .before .args in let l = i .before .loop in let q = i .before .before .pre in let p = here i in
+sum-read c = let i = (of-products c) in let s = i .before .before .args in let l = i .before .loop in let q = i .before .before .pre in let p = here i in
     reads-back (c .products .result) (2 ^ 56) (omega arith) (c .products .ensures .1) ∙ c .products .ensures .0
     ∙ rw (
       cell-back (now (s .b)) (l .v) (q .2),
@@ -65,16 +76,16 @@ sum-read c = let i = c .before .before .before .before .before in let s = i .bef
       reads-back (cell (now (s .sines)) (l .step)) SCALE (omega arith) (sine-small (q .0) (l .step) (p .step-in)),
     ) refl
 
-first-read : (c : tie.After-plus-quotient Inv-loop μ-loop) → let i = c .before .before .before .before .before .before .before in let s = i .before .before .args in
+first-read : (c : tie.After-plus-quotient Inv-loop μ-loop) → let i = of-first c in let s = i .before .before .args in
     toZ w64 (ofZ w64 (c .plus-quotient .result)) ≡ line quotient tableCosine tableSine (length (now (s .a))) (cell (now (s .a))) (cell (now (s .b))) (i .before .loop .v)
-first-read c = let i = c .before .before .before .before .before .before .before in let s = i .before .before .args in let l = i .before .loop in let q = i .before .before .pre in
+first-read c = let i = (of-first c) in let s = i .before .before .args in let l = i .before .loop in let q = i .before .before .pre in
     toZ-ofZ (sfits-of (c .plus-quotient .ok)) ∙ c .plus-quotient .ensures
     ∙ ap₂ (λ (a y : ℤ). a +ℤ quotient y) (cell-back (now (s .a)) (l .v) (q .1)) (sum-read (c .before .before))
     ∙ sym (first-line (q .0) (cell (now (s .a))) (cell (now (s .b))) (l .v) (l .mirror) (l .step) (here i) (l .inv .1) (l .inv .2))
 
-second-read : (c : tie.After-plus-quotient2 Inv-loop μ-loop) → let i = c .before .before .before .before .before .before .before .before .before in let s = i .before .before .args in
+second-read : (c : tie.After-plus-quotient2 Inv-loop μ-loop) → let i = of-second c in let s = i .before .before .args in
     toZ w64 (ofZ w64 (c .plus-quotient2 .result)) ≡ line quotient tableCosine tableSine (length (now (s .a))) (cell (now (s .a))) (cell (now (s .b))) (length (now (s .a)) + i .before .loop .v)
-second-read c = let i = c .before .before .before .before .before .before .before .before .before in let s = i .before .before .args in let l = i .before .loop in let q = i .before .before .pre in
+second-read c = let i = (of-second c) in let s = i .before .before .args in let l = i .before .loop in let q = i .before .before .pre in
     let z = c .before .before .before .before .products in let y = toZ w64 (ofZ w64 (z .result)) in
     toZ-ofZ (sfits-of (c .plus-quotient2 .ok)) ∙ c .plus-quotient2 .ensures
     ∙ ap₂ (λ (a y : ℤ). a +ℤ quotient y) (cell-back (now (s .a)) (l .v) (q .1))
@@ -121,61 +132,61 @@ products-requires c κs = let i = c .before .before .before .before in let s = i
 )
 
 mul-plus-quotient : tie.Need-mul-plus-quotient Inv-loop μ-loop
-mul-plus-quotient c = let p = here (c .before .before .before .before .before) in search needs
+mul-plus-quotient c = let p = here (of-products c) in search needs
 
 shared-slice-copy-out-plus-quotient : tie.Need-shared-slice-copy-out-plus-quotient Inv-loop μ-loop
-shared-slice-copy-out-plus-quotient c = let p = here (c .before .before .before .before .before) in search needs
+shared-slice-copy-out-plus-quotient c = let p = here (of-products c) in search needs
 
 plus-quotient-requires : tie.Need-plus-quotient-requires Inv-loop μ-loop
-plus-quotient-requires c κs = let s = c .before .before .before .before .before .before .before .before in let z = c .before .products in
-    (read-cell (now (s .args .a)) (c .before .before .before .before .before .before .before .loop .v) (s .pre .1), read-small (z .result) (2 ^ 56) (omega arith) (z .ensures .1))
+plus-quotient-requires c κs = let s = (of-products (c .before)) .before .before in let z = c .before .products in
+    (read-cell (now (s .args .a)) ((of-products (c .before)) .before .loop .v) (s .pre .1), read-small (z .result) (2 ^ 56) (omega arith) (z .ensures .1))
 
 mul-t22 : tie.Need-mul-t22 Inv-loop μ-loop
-mul-t22 c = let p = here (c .before .before .before .before .before .before .before) in search needs
+mul-t22 c = let p = here (of-first c) in search needs
 
 slice-set-from-cells : tie.Need-slice-set-from-cells Inv-loop μ-loop
-slice-set-from-cells c = let p = here (c .before .before .before .before .before .before .before) in omega (arith, c .before .before .before .before .before .before .before .before .loop .inv .3)
+slice-set-from-cells c = let p = here (of-first c) in omega (arith, (of-first c) .before .loop .inv .3)
 
 mul-plus-quotient-2 : tie.Need-mul-plus-quotient-2 Inv-loop μ-loop
-mul-plus-quotient-2 c = let p = here (c .before .before .before .before .before .before .before) in search needs
+mul-plus-quotient-2 c = let p = here (of-first c) in search needs
 
 shared-slice-copy-out-plus-quotient-2 :
     tie.Need-shared-slice-copy-out-plus-quotient-2 Inv-loop μ-loop
-shared-slice-copy-out-plus-quotient-2 c = let p = here (c .before .before .before .before .before .before .before) in search needs
+shared-slice-copy-out-plus-quotient-2 c = let p = here (of-first c) in search needs
 
 sub-plus-quotient : tie.Need-sub-plus-quotient Inv-loop μ-loop
 sub-plus-quotient c = let z = c .before .before .before .products in let y = toZ w64 (ofZ w64 (z .result)) in
     fits (pos 0 -ℤ y) (omega (arith, minus y (read-small (z .result) (2 ^ 56) (omega arith) (z .ensures .1))))
 
 plus-quotient-requires-2 : tie.Need-plus-quotient-requires-2 Inv-loop μ-loop
-plus-quotient-requires-2 c κs = let s = c .before .before .before .before .before .before .before .before .before .before in let z = c .before .before .before .products in let y = toZ w64 (ofZ w64 (z .result)) in (
-  read-cell (now (s .args .a)) (c .before .before .before .before .before .before .before .before .before .loop .v) (s .pre .1),
+plus-quotient-requires-2 c κs = let s = (of-first (c .before)) .before .before in let z = c .before .before .before .products in let y = toZ w64 (ofZ w64 (z .result)) in (
+  read-cell (now (s .args .a)) ((of-first (c .before)) .before .loop .v) (s .pre .1),
   read-small (pos 0 -ℤ y) (2 ^ 56) (omega arith) (minus y (read-small (z .result) (2 ^ 56) (omega arith) (z .ensures .1))),
 )
 
 add-t13 : tie.Need-add-t13 Inv-loop μ-loop
-add-t13 c = let p = here (c .before .before .before .before .before .before .before .before .before) in search needs
+add-t13 c = let p = here (of-second c) in search needs
 
 mul-t22-2 : tie.Need-mul-t22-2 Inv-loop μ-loop
-mul-t22-2 c = let p = here (c .before .before .before .before .before .before .before .before .before) in search needs
+mul-t22-2 c = let p = here (of-second c) in search needs
 
 slice-set-from-cells-2 : tie.Need-slice-set-from-cells-2 Inv-loop μ-loop
-slice-set-from-cells-2 c = let p = here (c .before .before .before .before .before .before .before .before .before) in rw length-set (omega (arith, c .before .before .before .before .before .before .before .before .before .before .loop .inv .3))
+slice-set-from-cells-2 c = let p = here (of-second c) in rw length-set (omega (arith, (of-second c) .before .loop .inv .3))
 
 add-v : tie.Need-add-v Inv-loop μ-loop
-add-v c = let p = here (c .before .before .before .before .before .before .before .before .before) in search needs
+add-v c = let p = here (of-second c) in search needs
 
 sub-mirror : tie.Need-sub-mirror Inv-loop μ-loop
-sub-mirror c = let p = here (c .before .before .before .before .before .before .before .before .before) in search needs
+sub-mirror c = let p = here (of-second c) in search needs
 
 add-step : tie.Need-add-step Inv-loop μ-loop
-add-step c = let p = here (c .before .before .before .before .before .before .before .before .before) in let l = cosines-many (c .before .before .before .before .before .before .before .before .before .before .before .pre .0) in search needs
+add-step c = let p = here (of-second c) in let l = cosines-many ((of-second c) .before .before .pre .0) in search needs
 
 loop-less : tie.Need-loop-less Inv-loop μ-loop
-loop-less c = let p = here (c .before .before .before .before .before .before .before .before .before) in search needs
+loop-less c = let p = here (of-second c) in search needs
 
 loop-again : tie.Need-loop-again Inv-loop μ-loop
-loop-again c = let i = c .before .before .before .before .before .before .before .before .before in let s = i .before .before .args in let l = i .before .loop in let p = here i in let f = line quotient tableCosine tableSine (length (now (s .a))) (cell (now (s .a))) (cell (now (s .b))) in (
+loop-again c = let i = (of-second c) in let s = i .before .before .args in let l = i .before .loop in let p = here i in let f = line quotient tableCosine tableSine (length (now (s .a))) (cell (now (s .a))) (cell (now (s .b))) in (
   omega arith,
   sym (mod-eq-of-lt (omega arith)),
   ap (λ (x : ℕ). x + s .stride) (l .inv .2) ∙ one-more (l .v) (s .stride),

@@ -100,11 +100,15 @@ next-pair n base e = ap (λ (x : ℕ). x % (2 * n)) two ∙ add-mod-right base (
     two : base + n + n ≡ base + 2 * n
     two = omega arith
 
-inside : (c : tie.In-loop Inv-loop μ-loop) → c .before .loop .base + 2 * c .before .before .args .half ≤ length (now (c .before .before .args .kept))
-inside c = let l = c .before .loop in let s = c .before .before in pair-inside (2 * s .args .half) (l .base) (length (now (s .args .kept))) (l .inv .1) (s .pre .2) (c .loop-test .taken)
+inside : (c : tie.In-loop Inv-loop μ-loop) → c .before .loop .base + 2 * c .before .before .args .n ≤ length (now (c .before .before .args .kept))
+inside c = let l = c .before .loop in let s = c .before .before in pair-inside (2 * s .args .n) (l .base) (length (now (s .args .kept))) (l .inv .1) (s .pre .2) (c .loop-test .taken)
+
+-- at the end of a round
+abbrev round : tie.After-cells Inv-loop μ-loop → tie.In-loop Inv-loop μ-loop
+round c = c .before .before .before .before .before
 
 loop-holds : tie.Need-loop-holds Inv-loop μ-loop
-loop-holds c = (omega arith, zero-mod (2 * c .args .half), c .pre .3, λ i h. absurd (not-suc-le-zero h))
+loop-holds c = (omega arith, zero-mod (2 * c .args .n), c .pre .3, λ i h. absurd (not-suc-le-zero h))
 
 add-middle : tie.Need-add-middle Inv-loop μ-loop
 add-middle c = let h = inside c in search needs
@@ -149,7 +153,7 @@ part-join-end-3 : tie.Need-part-join-end-3 Inv-loop μ-loop
 part-join-end-3 c = let h = inside (c .before .before) in omega (arith, h, c .before .before .before .loop .inv .2)
 
 join-requires : tie.Need-join-requires Inv-loop μ-loop
-join-requires c κs = let l = c .before .before .before .before .loop in let s = c .before .before .before .before .before in let xs = now (s .args .kept) in let n = s .args .half in let h = inside (c .before .before .before) in let e = a-long xs (l .base) n h in (
+join-requires c κs = let l = c .before .before .before .before .loop in let s = c .before .before .before .before .before in let xs = now (s .args .kept) in let n = s .args .n in let h = inside (c .before .before .before) in let e = a-long xs (l .base) n h in (
   rw e (s .pre .0),
   record { size = part-all (pos 0) (λ z. natAbs z ≤ 2 ^ 40) (omega arith) (l .base) (l .base + n - l .base) xs (s .pre .1 .size) },
   record { size = part-all (pos 0) (λ z. natAbs z ≤ 2 ^ 40) (omega arith) (l .base + n) (l .base + n + n - (l .base + n)) xs (s .pre .1 .size) },
@@ -158,12 +162,12 @@ join-requires c κs = let l = c .before .before .before .before .loop in let s =
 )
 
 loop-less : tie.Need-loop-less Inv-loop μ-loop
-loop-less c = let h = inside (c .before .before .before .before .before) in omega (arith, c .before .before .before .before .before .before .before .pre .0 .some)
+loop-less c = let h = inside (round c) in omega (arith, (round c) .before .before .pre .0 .some)
 
 loop-again : tie.Need-loop-again Inv-loop μ-loop
-loop-again c = let l = c .before .before .before .before .before .before .loop in let s = c .before .before .before .before .before .before .before in let h = inside (c .before .before .before .before .before) in
-    let w = pair-written (now (s .args .kept)) (l .base) (s .args .half) h (s .pre .0 .some) (l .inv .1) (l .cells) _ (l .inv .2) (l .inv .3) (c .before .join .ensures) in
-    (omega arith, next-pair (s .args .half) (l .base) (l .inv .1), w .0, w .1)
+loop-again c = let l = (round c) .before .loop in let s = (round c) .before .before in let h = inside (round c) in
+    let w = pair-written (now (s .args .kept)) (l .base) (s .args .n) h (s .pre .0 .some) (l .inv .1) (l .cells) _ (l .inv .2) (l .inv .3) (c .before .join .ensures) in
+    (omega arith, next-pair (s .args .n) (l .base) (l .inv .1), w .0, w .1)
 
 same-length : tie.Need-same-length Inv-loop μ-loop
 same-length c = c .before .loop .inv .2 ∙ sym (c .before .before .pre .3)

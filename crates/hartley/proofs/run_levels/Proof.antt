@@ -18,7 +18,7 @@ use Rattle.spectrum.specs.Spectrum.{quotient, tableCosine, tableSine}
 use Rattle.spectrum.proofs.Pairs.{whole-steps}
 use Rattle.spectrum.proofs.Stages.{length-levels}
 use Rattle.spectrum.proofs.Distance.{whole-turn}
-use Rattle.hartley.specs.Workers.{turned, Joins, Within}
+use Rattle.hartley.specs.Workers.{turned, Joins, Runs, Within}
 use Rattle.hartley.proofs.run_levels.Statement.{statement}
 use Rattle.hartley.proofs.run_levels.Tie as tie
 
@@ -76,46 +76,54 @@ next-level : (L half : ℕ) (xs kept ys : List ℤ) → ys ≡ level quotient ta
 unfolding levels
 next-level L half xs kept ys e f g = rw (add-one L) (e ∙ ap₂ (level quotient tableCosine tableSine) f g)
 
+-- ---- the round to which a point of the loop's body belongs: once the cells are copied, and at its end
+
+abbrev copied : tie.After-join-level-arg2 Inv-loop μ-loop → tie.In-loop Inv-loop μ-loop
+copied c = c .before .before .before .before .before .before
+
+abbrev round : tie.After-cells Inv-loop μ-loop → tie.In-loop Inv-loop μ-loop
+round c = copied (c .before .before)
+
 loop-holds : tie.Need-loop-holds Inv-loop μ-loop
 unfolding levels
-loop-holds c = let q = c .pre in (omega arith, refl, ap length (q .3) ∙ length-tabulate (2 ^ c .args .p / 2) _ ∙ ap (λ (x : ℕ). 2 ^ x / 2) (sym (sub-zero (c .args .p))), refl, q .2)
+loop-holds c = let q = c .pre in (omega arith, refl, ap length (q .at-cosines) ∙ length-tabulate (2 ^ c .args .p / 2) _ ∙ ap (λ (x : ℕ). 2 ^ x / 2) (sym (sub-zero (c .args .p))), refl, q .as-long)
 
 copy-requires : tie.Need-copy-requires Inv-loop μ-loop
-copy-requires c κs = let l = c .before .before .before .loop .inv in let s = c .before .before .before .before in l .4 ∙ sym (ap length (l .3) ∙ as-many _ _ ∙ s .pre .1)
+copy-requires c κs = let l = c .before .before .before .loop .inv in let s = c .before .before .before .before in l .4 ∙ sym (ap length (l .3) ∙ as-many _ _ ∙ s .pre .long)
 
 join-level-requires : tie.Need-join-level-requires Inv-loop μ-loop
-join-level-requires c κs = let l = c .before .before .before .before .before .before .before .loop in let s = c .before .before .before .before .before .before .before .before in let p = s .args .p in let e = c .before .before .before .copy .ensures in
-    let long = ap length (l .inv .3) ∙ as-many _ _ ∙ s .pre .1 in (
-      joins p (l .level) (s .pre .0) (omega arith) (l .half) (l .stride) _ _ (l .inv .1) (l .inv .2) (s .pre .3) (s .pre .4),
-      subst (Within (2 ^ 40)) (sym (e ∙ l .inv .3)) (s .pre .5 (l .level) (l .inv .0)),
-      rw (ap length e ∙ long) (whole-pairs p (l .level) (l .half) (omega arith) (l .inv .1)),
+join-level-requires c κs = let l = (copied c) .before .loop in let s = (copied c) .before .before in let p = s .args .p in let e = c .before .before .before .copy .ensures in
+    let long = ap length (l .inv .3) ∙ as-many _ _ ∙ s .pre .long in (
+      joins p (l .level) (s .pre .most) (omega arith) (l .n) (l .stride) _ _ (l .inv .1) (l .inv .2) (s .pre .at-cosines) (s .pre .at-sines),
+      subst (Within (2 ^ 40)) (sym (e ∙ l .inv .3)) (s .pre .quiet (l .level) (l .inv .0)),
+      rw (ap length e ∙ long) (whole-pairs p (l .level) (l .n) (omega arith) (l .inv .1)),
       sym (ap length e),
     )
 
-mul-half : tie.Need-mul-half Inv-loop μ-loop
-mul-half c = let l = c .before .before .before .before .before .before .before .before .before .loop in omega (arith, l .inv .1, pow-mono {i = l .level} {j = 10} (omega (arith, c .before .before .before .before .before .before .before .before .before .before .pre .0)))
+mul-n : tie.Need-mul-n Inv-loop μ-loop
+mul-n c = let l = (round c) .before .loop in omega (arith, l .inv .1, pow-mono {i = l .level} {j = 10} (omega (arith, (round c) .before .before .pre .most)))
 
 add-level : tie.Need-add-level Inv-loop μ-loop
-add-level c = omega (arith, c .before .before .before .before .before .before .before .before .before .before .pre .0)
+add-level c = omega (arith, (round c) .before .before .pre .most)
 
 loop-less : tie.Need-loop-less Inv-loop μ-loop
 loop-less c = omega arith
 
 loop-again : tie.Need-loop-again Inv-loop μ-loop
-loop-again c = let l = c .before .before .before .before .before .before .before .before .before .loop in let s = c .before .before .before .before .before .before .before .before .before .before in let k = c .before .before .before .before .before .copy .ensures in let j = c .before .join-level .ensures in
+loop-again c = let l = (round c) .before .loop in let s = (round c) .before .before in let k = c .before .before .before .before .before .copy .ensures in let j = c .before .join-level .ensures in
     let below : l .level < s .args .p = omega arith in (
       omega arith,
       rw (add-one (l .level)) (omega (arith, l .inv .1, two-pow (l .level))),
       rw (add-one (l .level)) (omega (arith, l .inv .2, rest (s .args .p) (l .level) below)),
-      next-level (l .level) (l .half) (now (s .args .cells)) _ _ j (l .inv .1) (k ∙ l .inv .3),
-      ap length (k ∙ l .inv .3) ∙ as-many (l .level) (now (s .args .cells)) ∙ s .pre .1,
+      next-level (l .level) (l .n) (now (s .args .cells)) _ _ j (l .inv .1) (k ∙ l .inv .3),
+      ap length (k ∙ l .inv .3) ∙ as-many (l .level) (now (s .args .cells)) ∙ s .pre .long,
     )
 
 same-length : tie.Need-same-length Inv-loop μ-loop
 same-length c = ap length (c .before .loop .inv .3) ∙ as-many _ _
 
 same-length-2 : tie.Need-same-length-2 Inv-loop μ-loop
-same-length-2 c = c .before .loop .inv .4 ∙ sym (c .before .before .pre .2)
+same-length-2 c = c .before .loop .inv .4 ∙ sym (c .before .before .pre .as-long)
 
 returns : tie.Need-returns Inv-loop μ-loop
 returns c = let l = c .before .loop in let s = c .before .before in let e : l .level ≡ s .args .p = omega (arith, l .inv .0) in
@@ -130,7 +138,7 @@ run-levels-spec =
     loop-holds
     copy-requires
     join-level-requires
-    mul-half
+    mul-n
     add-level
     loop-less
     loop-again

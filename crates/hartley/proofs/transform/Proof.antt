@@ -14,9 +14,23 @@ use Rattle.spectrum.specs.Levels.{permuted, levels, transformed}
 use Rattle.spectrum.specs.Spectrum.{forward, forwardAt, quotient, tableCosine, tableSine}
 use Rattle.spectrum.proofs.Stages.{length-permuted}
 use Rattle.spectrum.proofs.Demand3.{forward-room}
-use Rattle.hartley.specs.Workers.{Ready, turned, Within}
+use Rattle.hartley.specs.Workers.{Ready, Runs, turned, Within}
 use Rattle.hartley.proofs.transform.Statement.{statement}
 use Rattle.hartley.proofs.transform.Tie as tie
+
+-- ---- the points of the body, each from the one after it: cells permuted, cells kept, cosines and sines filled, the start
+
+abbrev permuted-at : tie.After-sines3 → tie.After-permute
+permuted-at c = c .before .before .before .before .before
+
+abbrev kept-at : tie.After-permute → tie.After-copy
+kept-at c = c .before .before .before .before
+
+abbrev filled-at : tie.After-copy → tie.After-fill-turn
+filled-at c = c .before .before .before .before .before
+
+abbrev start-at : tie.After-fill-turn → tie.Start
+start-at c = c .before .before .before
 
 -- ---- the front of a longer list, to which something was written
 
@@ -55,13 +69,13 @@ fill-turn-requires : tie.Need-fill-turn-requires
 fill-turn-requires c κs = let s = c .before .before in (some s, length-take-le _ _ (omega (arith, few s)), length-take-le _ _ (omega (arith, few s)))
 
 array-borrow-prefix-kept : tie.Need-array-borrow-prefix-kept
-array-borrow-prefix-kept c = few (c .before .before .before .before .before .before)
+array-borrow-prefix-kept c = few (start-at (c .before .before .before))
 
 slice-aggregate-copy : tie.Need-slice-aggregate-copy
-slice-aggregate-copy c = sym (length-take-le _ _ (few (c .before .before .before .before .before .before .before)))
+slice-aggregate-copy c = sym (length-take-le _ _ (few (start-at (c .before .before .before .before))))
 
 copy-requires : tie.Need-copy-requires
-copy-requires c κs = length-take-le _ _ (few (c .before .before .before .before .before .before .before))
+copy-requires c κs = length-take-le _ _ (few (start-at (c .before .before .before .before)))
 
 array-share-prefix-kept : tie.Need-array-share-prefix-kept
 array-share-prefix-kept c = front-fits _ _ _ refl (c .before .copy .ensures)
@@ -70,44 +84,46 @@ slice-aggregate-permute : tie.Need-slice-aggregate-permute
 slice-aggregate-permute c = sym (ap length (front _ _ _ refl (c .before .before .copy .ensures)))
 
 permute-requires : tie.Need-permute-requires
-permute-requires c κs = let s = c .before .before .before .before .before .before .before .before .before .before .before in (s .pre .most, ap length (front _ _ _ refl (c .before .before .before .copy .ensures)) ∙ s .pre .long, s .pre .long)
+permute-requires c κs = let k = c .before .before .before in let s = start-at (filled-at k) in
+    (s .pre .most, ap length (front _ _ _ refl (k .copy .ensures)) ∙ s .pre .long, s .pre .long)
 
 array-borrow-prefix-kept-2 : tie.Need-array-borrow-prefix-kept-2
-array-borrow-prefix-kept-2 c = front-fits _ _ _ refl (c .before .before .before .before .before .before .copy .ensures)
+array-borrow-prefix-kept-2 c = front-fits _ _ _ refl (kept-at (c .before .before) .copy .ensures)
 
 slice-aggregate-run-levels : tie.Need-slice-aggregate-run-levels
-slice-aggregate-run-levels c = sym (ap length (front _ _ _ refl (c .before .before .before .before .before .before .before .copy .ensures)))
+slice-aggregate-run-levels c = sym (ap length (front _ _ _ refl (kept-at (c .before .before .before) .copy .ensures)))
 
 array-share-prefix-cosines : tie.Need-array-share-prefix-cosines
-array-share-prefix-cosines c = front-fits _ _ _ (turned-many tableCosine _) (c .before .before .before .before .before .before .before .before .before .before .before .before .fill-turn .ensures .0)
+array-share-prefix-cosines c = front-fits _ _ _ (turned-many tableCosine _) (filled-at (kept-at (c .before .before .before)) .fill-turn .ensures .0)
 
 slice-aggregate-run-levels-2 : tie.Need-slice-aggregate-run-levels-2
-slice-aggregate-run-levels-2 c = sym (ap length (front _ _ _ (turned-many tableCosine _) (c .before .before .before .before .before .before .before .before .before .before .before .before .before .fill-turn .ensures .0)) ∙ turned-many tableCosine _)
+slice-aggregate-run-levels-2 c = sym (ap length (front _ _ _ (turned-many tableCosine _) (filled-at (kept-at (c .before .before .before .before)) .fill-turn .ensures .0)) ∙ turned-many tableCosine _)
 
 array-share-prefix-sines : tie.Need-array-share-prefix-sines
-array-share-prefix-sines c = front-fits _ _ _ (turned-many tableSine _) (c .before .before .before .before .before .before .before .before .before .before .before .before .before .fill-turn .ensures .1)
+array-share-prefix-sines c = front-fits _ _ _ (turned-many tableSine _) (filled-at (kept-at (c .before .before .before .before)) .fill-turn .ensures .1)
 
 slice-aggregate-run-levels-3 : tie.Need-slice-aggregate-run-levels-3
-slice-aggregate-run-levels-3 c = sym (ap length (front _ _ _ (turned-many tableSine _) (c .before .before .before .before .before .before .before .before .before .before .before .before .before .before .fill-turn .ensures .1)) ∙ turned-many tableSine _)
+slice-aggregate-run-levels-3 c = sym (ap length (front _ _ _ (turned-many tableSine _) (filled-at (kept-at (permuted-at c)) .fill-turn .ensures .1)) ∙ turned-many tableSine _)
 
 run-levels-requires : tie.Need-run-levels-requires
-run-levels-requires c κs = let s = c .before .before .before .before .before .before .before .before .before .before .before .before .before .before .before .before .before in let xs = now (s .args .cells) in let p = s .args .p in let n = s .pre .long in let k = front (length xs) _ _ refl (c .before .before .before .before .before .before .before .before .before .copy .ensures) in
-    let e = c .before .before .before .before .before .permute .ensures ∙ ap (permuted p) k in (
-      s .pre .most,
-      ap length e ∙ length-permuted p xs,
-      ap length k ∙ n,
-      front _ _ _ (turned-many tableCosine _) (c .before .before .before .before .before .before .before .before .before .before .before .before .before .before .fill-turn .ensures .0) ∙ ap (turned tableCosine) n,
-      front _ _ _ (turned-many tableSine _) (c .before .before .before .before .before .before .before .before .before .before .before .before .before .before .fill-turn .ensures .1) ∙ ap (turned tableSine) n,
-      λ L h. record { size = λ i. rw e (forward-room L p h (s .pre .most) xs (s .pre .quiet .size) i) },
-    )
+run-levels-requires c κs = let k = kept-at (permuted-at c) in let f = filled-at k in let s = start-at f in let xs = now (s .args .cells) in let p = s .args .p in
+    let kept = front (length xs) _ _ refl (k .copy .ensures) in let cells = permuted-at c .permute .ensures ∙ ap (permuted p) kept in
+    record {
+      most = s .pre .most;
+      long = ap length cells ∙ length-permuted p xs;
+      as-long = ap length kept ∙ s .pre .long;
+      at-cosines = front _ _ _ (turned-many tableCosine _) (f .fill-turn .ensures .0) ∙ ap (turned tableCosine) (s .pre .long);
+      at-sines = front _ _ _ (turned-many tableSine _) (f .fill-turn .ensures .1) ∙ ap (turned tableSine) (s .pre .long);
+      quiet = λ L h. record { size = λ i. rw cells (forward-room L p h (s .pre .most) xs (s .pre .quiet .size) i) };
+    }
 
 same-length : tie.Need-same-length
 same-length c = search needs
 
 returns : tie.Need-returns
 unfolding forward forwardAt transformed
-returns c = let s = c .before .before .before .before .before .before .before .before .before .before .before .before .before .before .before .before .before .before .before .before in let xs = now (s .args .cells) in let p = s .args .p in
-    c .before .before .run-levels .ensures ∙ ap (levels quotient tableCosine tableSine p) (c .before .before .before .before .before .before .before .before .permute .ensures ∙ ap (permuted p) (front (length xs) _ _ refl (c .before .before .before .before .before .before .before .before .before .before .before .before .copy .ensures)))
+returns c = let r = c .before .before in let m = permuted-at (r .before) in let k = kept-at m in let s = start-at (filled-at k) in let p = s .args .p in
+    r .run-levels .ensures ∙ ap (levels quotient tableCosine tableSine p) (m .permute .ensures ∙ ap (permuted p) (front (length (now (s .args .cells))) _ _ refl (k .copy .ensures)))
 
 pub transform-spec : {M : Type 1} → statement M
 transform-spec =
