@@ -1,7 +1,9 @@
 // The worked samples of document 01, run. What is printed is held to the file stdout, which was worked by hand from the document.
+use hartley::Answer;
 use libc::STDOUT_FILENO;
 use refusal::BlockKind;
 use refusal::KindAnswer;
+use refusal::Refusal;
 
 fn print(text: &[u8]) {
     io::write_all(STDOUT_FILENO, text);
@@ -64,14 +66,92 @@ fn length_of(len: usize) {
             print(b" P ");
             io::print_decimal(STDOUT_FILENO, kind.p as u64);
         }
-        KindAnswer::Refused(refusal) => {
-            print(b" refused ");
-            io::print_decimal(STDOUT_FILENO, refusal.number() as u64);
-            print(b" ");
-            io::print_decimal(STDOUT_FILENO, refusal.place() as u64);
-        }
+        KindAnswer::Refused(refusal) => print_refusal(refusal),
     }
     print(b"\n");
+}
+
+// A refusal by its number and place.
+fn print_refusal(refusal: Refusal) {
+    print(b" refused ");
+    io::print_decimal(STDOUT_FILENO, refusal.number() as u64);
+    print(b" ");
+    io::print_decimal(STDOUT_FILENO, refusal.place() as u64);
+}
+
+// The cells, each after a space.
+fn print_cells(cells: &[i64]) {
+    let mut i = 0;
+    while i < cells.len() {
+        print(b" ");
+        print_signed(cells[i]);
+        i += 1;
+    }
+}
+
+fn print_answer(answer: Answer) {
+    match answer {
+        Answer::Done => print(b" done"),
+        Answer::Refused(refusal) => print_refusal(refusal),
+    }
+}
+
+// The cells lent to forward, its answer, and the cells that it leaves.
+fn forward_of(cells: &mut [i64]) {
+    print(b"forward of");
+    print_cells(cells);
+    print(b":");
+    print_answer(hartley::forward(cells));
+    print(b", cells");
+    print_cells(cells);
+    print(b"\n");
+}
+
+// The same for backward.
+fn backward_of(cells: &mut [i64]) {
+    print(b"backward of");
+    print_cells(cells);
+    print(b":");
+    print_answer(hartley::backward(cells));
+    print(b", cells");
+    print_cells(cells);
+    print(b"\n");
+}
+
+// What forward answers to so many cells that are 0.
+fn zeros_of(cells: &mut [i64]) {
+    print(b"forward of zeros ");
+    io::print_decimal(STDOUT_FILENO, cells.len() as u64);
+    print(b":");
+    print_answer(hartley::forward(cells));
+    print(b"\n");
+}
+
+fn blocks() {
+    forward_of(&mut [0, 0]);
+    forward_of(&mut [3, -5]);
+    forward_of(&mut [1, 2, 3, 4]);
+    backward_of(&mut [10, -4, -2, 0]);
+    forward_of(&mut [1, 2, 3, 4, 5, 6, 7, 8]);
+    forward_of(&mut [0, 1, 0, 0, 0, 0, 0, 0]);
+    // the limits of a sample
+    forward_of(&mut [1, 2, 32768, -40000]);
+    forward_of(&mut [-32768, 32767]);
+    forward_of(&mut [-32769, 0]);
+    // the limits of a line, and the rounding of halves
+    backward_of(&mut [268435456, -268435456]);
+    backward_of(&mut [0, 268435457]);
+    backward_of(&mut [-268435457, 0, 0, 0]);
+    backward_of(&mut [1, 0]);
+    backward_of(&mut [-1, 0]);
+}
+
+fn lengths() {
+    zeros_of(&mut [0; 0]);
+    zeros_of(&mut [0]);
+    zeros_of(&mut [0, 0, 0]);
+    zeros_of(&mut [0; BlockKind::LARGEST]);
+    zeros_of(&mut [0; 2 * BlockKind::LARGEST]);
 }
 
 fn main() {
@@ -101,4 +181,6 @@ fn main() {
     length_of(3);
     length_of(2048);
     length_of(BlockKind::LARGEST);
+    blocks();
+    lengths();
 }

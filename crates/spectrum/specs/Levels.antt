@@ -20,7 +20,7 @@ reversed (suc P) t = t % 2 * 2 ^ P + reversed P (t / 2)
 -- Cell t goes to the place whose P binary digits are those of t reversed. Twice reversed is t again, so what comes to place i is the cell
 -- whose digits are those of i reversed (`cell-goes` in proofs/Reversal).
 unfoldable pub permuted : ℕ → List ℤ → List ℤ
-unfolding reversed
+unfolding tabulate reversed
 permuted P xs = tabulate (2 ^ P) (λ i. cell xs (reversed P i))
 
 -- ---- 2. Levels. R divides by the table's scale with rounding; C and S are the table's cosine and sine at a step of the turn.
@@ -38,6 +38,7 @@ module _ (R : ℤ → ℤ) (C S : ℕ → ℤ) where
       line n (λ j. x (base + j)) (λ j. x (base + (n + j))) (i % (2 * n))
 
   unfoldable pub level : ℕ → List ℤ → List ℤ
+  unfolding tabulate
   level n xs = tabulate (length xs) (joined n (cell xs))
 
   -- levels 1 to L; level L joins halves of 2^(L−1) cells
