@@ -1,6 +1,6 @@
 -- `forward` is right because `tested` finds the first fault or none, and `transform` leaves the spectrum, of which demand 3 and line 0 are laws.
 use borrow.Author.Needs.{needs}
-use mathlib.Core.Path.{_≡_, sym, _∙_, ap}
+use mathlib.Core.Path.{_≡_, sym, _∙_, ap, subst}
 use mathlib.Core.List.{List}
 use Prim.Native.Nat.{ℕ, _^_}
 use native.Mathlib.Omega.{arith}
@@ -30,10 +30,15 @@ refused-not-done refusal e = let z : _≡_ {A = ℕ} 0 1 = cc in absurd (omega a
 module _ (xs : List ℤ) (kind : BlockKind) (e : testedSamples xs ≡ Taken kind) where
   near : (P : ℕ) → length xs ≡ 2 ^ P → WithinE P xs (forward (kind .p) xs)
   near P long = let k = taken-kind _ _ xs kind e in
-      rw (two-pow-same (kind .p) P (sym (k .cells) ∙ long)) (demand-3 P (rw (two-pow-same P (kind .p) (sym long ∙ k .cells)) (k .most)) xs long (taken-quiet 32768 32767 32768 xs kind (omega arith) (omega arith) e))
+      subst (λ (Q : ℕ). WithinE Q xs (forward (kind .p) xs)) (two-pow-same (kind .p) P (sym (k .cells) ∙ long))
+      (demand-3 (kind .p) (k .most) xs (k .cells) (taken-quiet 32768 32767 32768 xs kind (omega arith) (omega arith) e))
 
   first : cell (forward (kind .p) xs) 0 ≡ sum (length xs) (cell xs)
   first = forward-first (kind .p) xs ∙ ap (λ (n : ℕ). sum n (cell xs)) (sym (taken-kind _ _ xs kind e .cells))
+
+-- what `tested` has found of the lent block
+taken : (k : tie.After-kind) → testedSamples (now (k .before .before .before .before .args .cells)) ≡ Taken (k .kind .given .0 .0)
+taken k = sym (k .before .before .tested .ensures) ∙ k .kind .given .1
 
 tested-requires : tie.Need-tested-requires
 tested-requires c κs = search needs
@@ -45,7 +50,7 @@ enum-known-kind : tie.Need-enum-known-kind
 enum-known-kind c = search needs
 
 transform-requires : tie.Need-transform-requires
-transform-requires c κs = taken-ready 32768 32767 _ _ (omega arith) (omega arith) (sym (c .before .before .before .before .tested .ensures) ∙ c .before .before .kind .given .1)
+transform-requires c κs = taken-ready 32768 32767 _ _ (omega arith) (omega arith) (taken (c .before .before))
 
 same-length : tie.Need-same-length
 same-length c = search needs
@@ -58,8 +63,8 @@ same-length-2 : tie.Need-same-length-2
 same-length-2 c = search needs
 
 returns-2 : tie.Need-returns-2
-returns-2 c = let xs = now (c .before .before .before .before .before .before .before .before .args .cells) in let kind = c .before .before .before .before .kind .given .0 .0 in let e = sym (c .before .before .before .before .before .before .tested .ensures) ∙ c .before .before .before .before .kind .given .1 in
-    let t = c .before .transform .ensures in
+returns-2 c = let k = c .before .before .before .before in let xs = now (k .before .before .before .before .args .cells) in let kind = k .kind .given .0 .0 in
+    let e = taken k in let t = c .before .transform .ensures in
     (sym (ap answer e), (t ∙ sym (ap (leaves forward xs) e), (λ h P long. rw t (near xs kind e P long), λ h. ap (λ (ys : List ℤ). cell ys 0) t ∙ first xs kind e)))
 
 pub forward-spec : {M : Type 1} → statement M

@@ -153,13 +153,14 @@ part-join-end-3 : tie.Need-part-join-end-3 Inv-loop μ-loop
 part-join-end-3 c = let h = inside (c .before .before) in omega (arith, h, c .before .before .before .loop .inv .2)
 
 join-requires : tie.Need-join-requires Inv-loop μ-loop
-join-requires c κs = let l = c .before .before .before .before .loop in let s = c .before .before .before .before .before in let xs = now (s .args .kept) in let n = s .args .n in let h = inside (c .before .before .before) in let e = a-long xs (l .base) n h in (
-  rw e (s .pre .0),
-  record { size = part-all (pos 0) (λ z. natAbs z ≤ 2 ^ 40) (omega arith) (l .base) (l .base + n - l .base) xs (s .pre .1 .size) },
-  record { size = part-all (pos 0) (λ z. natAbs z ≤ 2 ^ 40) (omega arith) (l .base + n) (l .base + n + n - (l .base + n)) xs (s .pre .1 .size) },
-  b-long xs (l .base) n h ∙ sym e,
-  cells-long (l .cells) (l .base) n (omega (arith, l .inv .2)) ∙ ap (λ (m : ℕ). 2 * m) (sym e),
-)
+join-requires c κs = let i = c .before .before .before in let l = i .before .loop in let s = i .before .before in let xs = now (s .args .kept) in
+    let n = s .args .n in let h = inside i in let e = a-long xs (l .base) n h in (
+      rw e (s .pre .0),
+      record { size = part-all (pos 0) (λ z. natAbs z ≤ 2 ^ 40) (omega arith) (l .base) (l .base + n - l .base) xs (s .pre .1 .size) },
+      record { size = part-all (pos 0) (λ z. natAbs z ≤ 2 ^ 40) (omega arith) (l .base + n) (l .base + n + n - (l .base + n)) xs (s .pre .1 .size) },
+      b-long xs (l .base) n h ∙ sym e,
+      cells-long (l .cells) (l .base) n (omega (arith, l .inv .2)) ∙ ap (λ (m : ℕ). 2 * m) (sym e),
+    )
 
 loop-less : tie.Need-loop-less Inv-loop μ-loop
 loop-less c = let h = inside (round c) in omega (arith, (round c) .before .before .pre .0 .some)
