@@ -1,4 +1,5 @@
--- One pair of halves a and b of n cells: where line v, its mirror and its step lie, what lines v and n + v are, and how they fill the cells.
+-- What `join` needs of one pair of halves: where line v, its mirror and its entry lie, what lines v and n + v are there, and how they fill the cells.
+-- Example: `line-in-second-half` says that line n + v is a(v) plus the rounded quotient of minus the sum that the machine forms.
 use mathlib.Core.Path.{_≡_, refl, sym, _∙_, ap}
 use mathlib.Core.Bool.{Bool, true, false, not}
 use mathlib.Core.List.{List}
@@ -28,17 +29,17 @@ stride-some : (n stride apart : ℕ) → 2 * n * (stride * apart) ≡ 1024 → 0
 stride-some n zero apart e = omega arith
 stride-some n (suc stride) apart e = omega arith
 
-pub record Places (n stride v mirror step : ℕ) : Type 0 where
+pub record Places (n stride v mirror entry : ℕ) : Type 0 where
   pub below : v < n
   pub mirrored : mirror < n
-  pub step-in : step < n * stride
-  pub step-on : step + stride ≤ n * stride
+  pub entry-in : entry < n * stride
+  pub entry-on : entry + stride ≤ n * stride
 
-pub places : {n stride : ℕ} {cosines sines : List ℤ} → Joins n stride cosines sines → (v mirror step : ℕ) → v < n → mirror ≡ (n - v) % n → step ≡ v * stride →
-    Places n stride v mirror step
-places {n} {stride} J v mirror step h m s =
-    let on : step + stride ≤ n * stride = omega (arith, mul-le-mul-right stride h) in
-    record { below = h; mirrored = rw m (mod-lt (n - v) (omega arith)); step-in = omega (arith, stride-some n stride (J .apart) (J .turn)); step-on = on }
+pub places : {n stride : ℕ} {cosines sines : List ℤ} → Joins n stride cosines sines → (v mirror entry : ℕ) → v < n → mirror ≡ (n - v) % n → entry ≡ v * stride →
+    Places n stride v mirror entry
+places {n} {stride} J v mirror entry h m s =
+    let on : entry + stride ≤ n * stride = omega (arith, mul-le-mul-right stride h) in
+    record { below = h; mirrored = rw m (mod-lt (n - v) (omega arith)); entry-in = omega (arith, stride-some n stride (J .apart) (J .turn)); entry-on = on }
 
 -- ---- what they are
 
@@ -61,27 +62,27 @@ module _ {n stride : ℕ} {cosines sines : List ℤ} (J : Joins n stride cosines
   pub sine-small : (k : ℕ) → k < n * stride → natAbs (cell sines k) ≤ SCALE
   sine-small k h = rw (sine-at k h) (table-sine-size SCALE-DIGITS (omega arith) _)
 
-  module _ (a b : ℕ → ℤ) (v mirror step : ℕ) (p : Places n stride v mirror step) (m : mirror ≡ (n - v) % n) (s : step ≡ v * stride) where
+  module _ (a b : ℕ → ℤ) (v mirror entry : ℕ) (p : Places n stride v mirror entry) (m : mirror ≡ (n - v) % n) (s : entry ≡ v * stride) where
     abbrev sum : ℤ
-    sum = b v *ℤ cell cosines step +ℤ b mirror *ℤ cell sines step
+    sum = b v *ℤ cell cosines entry +ℤ b mirror *ℤ cell sines entry
 
-    at-step : step * J .apart ≡ v * (stride * J .apart)
+    at-step : entry * J .apart ≡ v * (stride * J .apart)
     at-step = over (J .apart)
       where
-        over : (h : ℕ) → step * h ≡ v * (stride * h)
+        over : (h : ℕ) → entry * h ≡ v * (stride * h)
         over h = rw s (omega arith)
 
     -- the same sum, as the laws of a pair have it
     same-sum : let step = v * (stride * J .apart) in
         b v *ℤ tableCosine step +ℤ b ((n - v) % n) *ℤ tableSine step ≡ sum
-    same-sum = rw (sym at-step, sym m, sym (cosine-at step (p .step-in)), sym (sine-at step (p .step-in))) refl
+    same-sum = rw (sym at-step, sym m, sym (cosine-at entry (p .entry-in)), sym (sine-at entry (p .entry-in))) refl
 
-    pub first-line : line quotient tableCosine tableSine n a b v ≡ a v +ℤ quotient sum
-    first-line = first-half quotient tableCosine tableSine n (J .some) a b (stride * J .apart) (J .turn) v (p .below)
+    pub line-in-first-half : line quotient tableCosine tableSine n a b v ≡ a v +ℤ quotient sum
+    line-in-first-half = first-half quotient tableCosine tableSine n (J .some) a b (stride * J .apart) (J .turn) v (p .below)
         ∙ ap (λ (y : ℤ). a v +ℤ quotient y) same-sum
 
-    pub second-line : line quotient tableCosine tableSine n a b (n + v) ≡ a v +ℤ quotient (negℤ sum)
-    second-line = second-half quotient tableCosine tableSine n (J .some) a b (stride * J .apart) (J .turn) v (p .below)
+    pub line-in-second-half : line quotient tableCosine tableSine n a b (n + v) ≡ a v +ℤ quotient (negℤ sum)
+    line-in-second-half = second-half quotient tableCosine tableSine n (J .some) a b (stride * J .apart) (J .turn) v (p .below)
         (cosine-half (quarterTable SCALE-DIGITS) end) (sine-half (quarterTable SCALE-DIGITS) end) ∙ ap (λ (y : ℤ). a v +ℤ quotient (negℤ y)) same-sum
       where
         end : quarterTable SCALE-DIGITS 256 ≡ 0
@@ -89,9 +90,9 @@ module _ {n stride : ℕ} {cosines sines : List ℤ} (J : Joins n stride cosines
 
 -- ---- how they fill the cells
 
--- lines n to n + v are written
-abbrev pub Second : (ℕ → ℤ) → ℕ → ℕ → List ℤ → Type 0
-Second f n v xs = (i : ℕ) → i < v → cell xs (n + i) ≡ f (n + i)
+-- lines n to n + v − 1 are written
+abbrev pub SecondFilled : (ℕ → ℤ) → ℕ → ℕ → List ℤ → Type 0
+SecondFilled f n v xs = (i : ℕ) → i < v → cell xs (n + i) ≡ f (n + i)
 
 module _ (f : ℕ → ℤ) (n v : ℕ) (xs : List ℤ) (x y : ℤ) (below : v < n) (room : length xs ≡ 2 * n) where
   abbrev pub written : List ℤ
@@ -100,7 +101,7 @@ module _ (f : ℕ → ℤ) (n v : ℕ) (xs : List ℤ) (x y : ℤ) (below : v < 
   pub written-first : x ≡ f v → Filled (pos 0) f v xs → Filled (pos 0) f (v + 1) written
   written-first e F = filled-still (pos 0) f (set xs v x) (v + 1) (n + v) y (omega arith) (filled-next (pos 0) f xs v x (omega arith) e F)
 
-  pub written-second : y ≡ f (n + v) → Second f n v xs → Second f n (v + 1) written
+  pub written-second : y ≡ f (n + v) → SecondFilled f n v xs → SecondFilled f n (v + 1) written
   written-second e F = below-more (λ i. cell written (n + i) ≡ f (n + i)) v
       (λ i h. getD-set-other (set xs v x) (n + v) (n + i) y (pos 0) (other i h) ∙ getD-set-other xs v (n + i) x (pos 0) (not-first i h) ∙ F i h)
       (getD-set-same (set xs v x) (n + v) y (pos 0) (rw length-set (omega arith)) ∙ e)
@@ -111,7 +112,7 @@ module _ (f : ℕ → ℤ) (n v : ℕ) (xs : List ℤ) (x y : ℤ) (below : v < 
       not-first : (i : ℕ) → i < v → n + i ≡ v → ⊥
       not-first i h e = omega arith
 
-pub both-halves : (f : ℕ → ℤ) (n : ℕ) (xs : List ℤ) → Filled (pos 0) f n xs → Second f n n xs → Filled (pos 0) f (2 * n) xs
+pub both-halves : (f : ℕ → ℤ) (n : ℕ) (xs : List ℤ) → Filled (pos 0) f n xs → SecondFilled f n n xs → Filled (pos 0) f (2 * n) xs
 both-halves f n xs F G i h = go (ltb i n) (ltb→lt i n) (nltb→le i n)
   where
     go : (t : Bool) → (T t → i < n) → (T (not t) → n ≤ i) → getD xs i (pos 0) ≡ f i

@@ -19,7 +19,7 @@ use Rattle.refusal.specs.BlockKinds.{kindOf}
 use Rattle.refusal.proofs.Lengths.{Kind-length, kind-length}
 use Rattle.spectrum.specs.Levels.{cell}
 use Rattle.hartley.specs.Calls.{notLoud, thenLoud, tested}
-use Rattle.hartley.specs.Workers.{Ready, Within}
+use Rattle.hartley.specs.Workers.{Ready, NoneAbove}
 
 -- ---- a list with no loud cell
 
@@ -69,4 +69,4 @@ taken-quiet a b m xs kind ha hb e i = go (kindOf (length xs)) e
 -- a block that is taken within 2^28 is ready for the levels
 pub taken-ready : (a b : ℕ) (xs : List ℤ) (kind : BlockKind) → a ≤ 2 ^ 28 → b ≤ 2 ^ 28 → tested (negℤ (pos a)) (pos b) xs ≡ Taken kind → Ready (kind .p) xs
 taken-ready a b xs kind ha hb e = let k = taken-kind (negℤ (pos a)) (pos b) xs kind e in
-    record { least = k .least; most = k .most; long = k .cells; quiet = record { size = taken-quiet a b (2 ^ 28) xs kind ha hb e } }
+    record { most = k .most; long = k .cells; quiet = record { size = taken-quiet a b (2 ^ 28) xs kind ha hb e } }

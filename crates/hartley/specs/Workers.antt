@@ -12,7 +12,7 @@ use Rattle.spectrum.specs.Levels.{cell, levels}
 use Rattle.spectrum.specs.Spectrum.{quotient, tableCosine, tableSine}
 
 -- no cell is above b in magnitude
-pub record Within (b : ℕ) (xs : List ℤ) : Type 0 where
+pub record NoneAbove (b : ℕ) (xs : List ℤ) : Type 0 where
   pub size : (i : ℕ) → natAbs (cell xs i) ≤ b
 
 -- one more, in P binary digits of which the first is the lowest: a 0 becomes 1, and of a 1 there is a carry to the digit after it
@@ -20,12 +20,11 @@ unfoldable pub nextReversed : ℕ → ℕ → ℕ
 nextReversed zero r = r
 nextReversed (suc P) r = cond (ltb r (2 ^ P)) (r + 2 ^ P) (nextReversed P (r - 2 ^ P))
 
--- 2^P cells, P from 1 to 10, that leave room for all levels
+-- 2^P cells, P at most 10, that leave room for all levels
 pub record Ready (P : ℕ) (xs : List ℤ) : Type 0 where
-  pub least : 1 ≤ P
   pub most : P ≤ 10
   pub long : length xs ≡ 2 ^ P
-  pub quiet : Within (2 ^ 28) xs
+  pub quiet : NoneAbove (2 ^ 28) xs
 
 -- the table's cosines, or sines, that a block of N cells needs: N/2 of them, 1,024 / N steps apart
 abbrev pub turned : (ℕ → ℤ) → ℕ → List ℤ
@@ -38,7 +37,7 @@ pub record Runs (P : ℕ) (cells kept cosines sines : List ℤ) : Type 0 where
   pub as-long : length kept ≡ 2 ^ P
   pub at-cosines : cosines ≡ turned tableCosine (2 ^ P)
   pub at-sines : sines ≡ turned tableSine (2 ^ P)
-  pub quiet : (L : ℕ) → L ≤ P → Within (2 ^ 40) (levels quotient tableCosine tableSine L cells)
+  pub quiet : (L : ℕ) → L < P → NoneAbove (2 ^ 40) (levels quotient tableCosine tableSine L cells)
 
 -- halves of n cells can be joined: every stride-th of the cosines and sines belongs to one line more; they are `apart` steps of the turn apart
 pub record Joins (n stride : ℕ) (cosines sines : List ℤ) : Type 0 where

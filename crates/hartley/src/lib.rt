@@ -15,7 +15,7 @@ ghost use Rattle.spectrum.specs.Levels.{cell, level, levels, line, permuted};
 ghost use Rattle.spectrum.specs.Spectrum.{backward, forward, quotient, tableCosine, tableSine};
 ghost use Rattle.spectrum.specs.Distance.{WithinE};
 ghost use Rattle.hartley.specs.Calls.{answer, testedSpectrum, leaves, notLoud, testedSamples, tested};
-ghost use Rattle.hartley.specs.Workers.{Joins, nextReversed, Ready, Runs, turned, Within};
+ghost use Rattle.hartley.specs.Workers.{Joins, nextReversed, Ready, Runs, turned, NoneAbove};
 ghost use Rattle.hartley.specs.declared.Answer.the-variants.{Done};
 
 // A sample lies between these two (16 bits).
@@ -47,7 +47,7 @@ pub fn forward(cells: &mut [i64]) -> Answer
     }
 }
 
-// The block whose spectrum is lent, within rounding, in the spectrum's place.
+// The same steps on a lent spectrum, then each cell divided by their number with rounding, in the spectrum's place.
 pub fn backward(cells: &mut [i64]) -> Answer
     ensures answer { λ r. ⌜ r ≡ answer (testedSpectrum (now (cells .entry))) ⌝ }
     ensures cells { λ _. ⌜ now (cells .exit) ≡ leaves backward (now (cells .entry)) (testedSpectrum (now (cells .entry))) ⌝ }
@@ -193,7 +193,7 @@ fn join_level(
     n: usize,
     stride: usize,
 )
-    requires { ⌜ Joins n stride (now cosines) (now sines) × Within (2 ^ 40) (now kept) × (length (now kept) % (2 * n) ≡ 0) × (length (now cells) ≡ length (now kept)) ⌝ }
+    requires { ⌜ Joins n stride (now cosines) (now sines) × NoneAbove (2 ^ 40) (now kept) × (length (now kept) % (2 * n) ≡ 0) × (length (now cells) ≡ length (now kept)) ⌝ }
     ensures { λ _. ⌜ now (cells .exit) ≡ level quotient tableCosine tableSine n (now (kept .entry)) ⌝ }
 {
     let mut base = 0;
@@ -212,35 +212,35 @@ fn join_level(
     }
 }
 
-// The lines of the joined halves a and b. Lines v and n + v have the same operands, and half a turn on cosine and sine change
-// their signs. The mirror of line 0 is line 0, that of line v is line n - v.
+// The lines of the joined halves a and b. Lines v and n + v have the same operands; half a turn on, cosine and sine change their
+// signs. The mirror of line 0 is line 0, that of line v is line n - v. Line v takes entry v × stride of the cosines and sines.
 fn join(a: &[i64], b: &[i64], cells: &mut [i64], cosines: &[i64], sines: &[i64], stride: usize)
-    requires { ⌜ Joins (length (now a)) stride (now cosines) (now sines) × Within (2 ^ 40) (now a) × Within (2 ^ 40) (now b) × (length (now b) ≡ length (now a)) × (length (now cells) ≡ 2 * length (now a)) ⌝ }
+    requires { ⌜ Joins (length (now a)) stride (now cosines) (now sines) × NoneAbove (2 ^ 40) (now a) × NoneAbove (2 ^ 40) (now b) × (length (now b) ≡ length (now a)) × (length (now cells) ≡ 2 * length (now a)) ⌝ }
     ensures { λ _. ⌜ now (cells .exit) ≡ tabulate (2 * length (now (a .entry))) (line quotient tableCosine tableSine (length (now (a .entry))) (cell (now (a .entry))) (cell (now (b .entry)))) ⌝ }
 {
     let n = a.len();
     let mut v = 0;
     let mut mirror = 0;
-    let mut step = 0;
+    let mut entry = 0;
     while v < n {
-        let sum = products(b[v], b[mirror], cosines[step], sines[step]);
+        let sum = sum_of_products(b[v], b[mirror], cosines[entry], sines[entry]);
         cells[v] = plus_quotient(a[v], sum);
         cells[n + v] = plus_quotient(a[v], -sum);
         v += 1;
         mirror = n - v;
-        step += stride;
+        entry += stride;
     }
 }
 
 // The sum of both products.
-fn products(b: i64, mirror: i64, cosine: i64, sine: i64) -> i64
+fn sum_of_products(b: i64, mirror: i64, cosine: i64, sine: i64) -> i64
     requires { ⌜ (natAbs b ≤ 2 ^ 40) × (natAbs mirror ≤ 2 ^ 40) × (natAbs cosine ≤ SCALE) × (natAbs sine ≤ SCALE) ⌝ }
     ensures { λ r. ⌜ (r ≡ b *ℤ cosine +ℤ mirror *ℤ sine) × (natAbs r ≤ 2 ^ 56) ⌝ }
 {
     b * cosine + mirror * sine
 }
 
-// A cell of the first half, and the sum of both products divided by the scale with rounding.
+// A cell of the first half plus the sum of both products divided by the scale with rounding.
 fn plus_quotient(a: i64, sum: i64) -> i64
     requires { ⌜ (natAbs a ≤ 2 ^ 40) × (natAbs sum ≤ 2 ^ 56) ⌝ }
     ensures { λ r. ⌜ r ≡ a +ℤ quotient sum ⌝ }

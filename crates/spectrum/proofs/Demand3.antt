@@ -1,7 +1,7 @@
 -- Demand 3 as document 01 has it: the distance theorem, the exact line 0 and the magnitude law, at the scale and the rounding in force.
 -- The proof goes in six steps, one file each: the even/odd law of the levels (EvenOdd), the same split of the direct sum (DirectSplit), the
 -- identity for one line and its bounds (Step), one level (OneLevel), the induction over the levels (Distance), and the figures here.
--- Example: `demand-3 10 few xs long loud : WithinE 10 xs (forward 10 xs)`.
+-- Example: `demand-3 10 few xs long quiet : WithinE 10 xs (forward 10 xs)`.
 use mathlib.Core.Path.{_≡_}
 use mathlib.Core.List.{List}
 use Prim.Native.Nat.{ℕ, _+_, _*_, _^_, _≤_, _<_}
@@ -28,7 +28,7 @@ use Rattle.spectrum.proofs.FirstLine.{first-line}
 pub distance-at : (s : ℕ) → 4 ≤ s → s < 60 → (M : ℕ) → M ≤ 2 ^ 43 → (P : ℕ) → P ≤ 10 → (xs : List ℤ) → length xs ≡ 2 ^ P → ((t : ℕ) → natAbs (cell xs t) ≤ M) →
     (v : ℕ) → v < 2 ^ P → natAbs (cell (forwardAt s P xs) v *ℤ pos (2 ^ 60) -ℤ directSum fine xs v) ≤ bound (2 ^ s) M P * 2 ^ 60
 unfolding forwardAt
-distance-at s low high M quiet = distance (nearest-at s low high) M quiet
+distance-at s low high M M-small = distance (nearest-at s low high) M M-small
 
 -- ---- at the scale in force
 
@@ -45,7 +45,7 @@ E-is-bound P few = eqb→eq _ _ (alongside-at eqb (bound 32768 32768) E 11 11 fi
 
 pub demand-3 : (P : ℕ) → P ≤ 10 → (xs : List ℤ) → length xs ≡ 2 ^ P → ((t : ℕ) → natAbs (cell xs t) ≤ 32768) → WithinE P xs (forward P xs)
 unfolding forward
-demand-3 P few xs long loud v h = rw (← E-is-bound P few) (distance-at SCALE-DIGITS (omega arith) (omega arith) 32768 (omega arith) P few xs long loud v h)
+demand-3 P few xs long quiet v h = rw (← E-is-bound P few) (distance-at SCALE-DIGITS (omega arith) (omega arith) 32768 (omega arith) P few xs long quiet v h)
 
 -- ---- line 0 is the sum of the samples
 
@@ -59,7 +59,7 @@ rooms : T (alongside leb (tabulate 11 (λ L. 2 * (2 ^ L * 2 ^ 28) + 2 * bound 32
 unfolding alongside tabulate bound
 rooms = tt
 
-pub forward-room : (L P : ℕ) → L ≤ P → P ≤ 10 → (xs : List ℤ) → ((t : ℕ) → natAbs (cell xs t) ≤ 2 ^ 28) → (i : ℕ) →
+pub forward-room : (L P : ℕ) → L < P → P ≤ 10 → (xs : List ℤ) → ((t : ℕ) → natAbs (cell xs t) ≤ 2 ^ 28) → (i : ℕ) →
     natAbs (cell (levels quotient tableCosine tableSine L (permuted P xs)) i) ≤ 2 ^ 40
-forward-room L P within few xs loud i = le-trans (level-size in-force (2 ^ 28) (omega arith) L P within few xs loud i)
+forward-room L P h few xs quiet i = le-trans (level-size in-force (2 ^ 28) (omega arith) L P (omega arith) few xs quiet i)
     (leb→le _ _ (alongside-at leb (λ L. 2 * (2 ^ L * 2 ^ 28) + 2 * bound 32768 (2 ^ 28) L) (λ L. 2 ^ 40) 11 11 rooms L (omega arith)))

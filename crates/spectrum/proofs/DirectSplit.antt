@@ -135,17 +135,17 @@ sums-size (suc n) B f g h = omega (arith, abs-plus (sum n f) (f n), abs-plus (su
 -- a line alone: |c + s| is at most √2
 pub direct-size : (n : ℕ) (x : ℕ → ℤ) (M : ℕ) → ((t : ℕ) → natAbs (x t) ≤ M) → (v : ℕ) → natAbs (direct n x v) ≤ n * (M * (92682 * 2 ^ 44))
 unfolding cas
-direct-size n x M loud v = sum-abs n (M * (92682 * 2 ^ 44)) _ (λ t k. one (x t) _ _ (loud t) (fine-size (v * t * 1024 / n % 1024)))
+direct-size n x M quiet v = sum-abs n (M * (92682 * 2 ^ 44)) _ (λ t k. one (x t) _ _ (quiet t) (fine-size (v * t * 1024 / n % 1024)))
   where
     one : (a c s : ℤ) → natAbs a ≤ M → Fine-size c s → natAbs (a *ℤ (c +ℤ s)) ≤ M * (92682 * 2 ^ 44)
     one a c s ha k = rw abs-times (mul-le-mul ha (omega (arith, abs-plus c s, k .pair-size)))
 
-module _ (n h : ℕ) (z : zero < n) (e : n * h ≡ 1024) (x : ℕ → ℤ) (M : ℕ) (loud : (t : ℕ) → natAbs (x t) ≤ M) (v : ℕ) where
+module _ (n h : ℕ) (z : zero < n) (e : n * h ≡ 1024) (x : ℕ → ℤ) (M : ℕ) (quiet : (t : ℕ) → natAbs (x t) ≤ M) (v : ℕ) where
   -- a line and its mirror together: |c + s| + |c − s| is twice the larger of |c| and |s|
   pub direct-pair-size : natAbs (direct n x (v % n)) + natAbs (direct n x (mirror n v)) ≤ 2 * (n * M) * 2 ^ 60
   unfolding cas
   direct-pair-size = rw (line-sum n h z e x v, mirror-sum n h z e x v)
-      (widen (2 ^ 60) (sums-size n (M * (2 * 2 ^ 60)) _ _ (λ t. one (x t) (cosine fine (v * t * h)) (sine fine (v * t * h)) (loud t) (fine-size (v * t * h)))))
+      (widen (2 ^ 60) (sums-size n (M * (2 * 2 ^ 60)) _ _ (λ t. one (x t) (cosine fine (v * t * h)) (sine fine (v * t * h)) (quiet t) (fine-size (v * t * h)))))
     where
       both : (c s : ℤ) (U : ℕ) → natAbs c ≤ U → natAbs s ≤ U → natAbs (c +ℤ s) + natAbs (c -ℤ s) ≤ 2 * U
       both c s U h k = let Γ = c ∷ s ∷ [] in
@@ -163,7 +163,7 @@ module _ (n h : ℕ) (z : zero < n) (e : n * h ≡ 1024) (x : ℕ → ℤ) (M : 
       -ℤ (direct n x (v % n) *ℤ cosine fine k +ℤ direct n x (mirror n v) *ℤ sine fine k)) ≤ n * (M * ε)
   odd-near k ε law = rw (line-sum n h z e x v, mirror-sum n h z e x v)
       (sums-near n (M * ε) _ _ _ (pos (2 ^ 60)) (cosine fine k) (sine fine k)
-      (λ u. one (x u) _ _ _ (pos (2 ^ 60)) (cosine fine k) (sine fine k) (loud u) (law (v * u * h))))
+      (λ u. one (x u) _ _ _ (pos (2 ^ 60)) (cosine fine k) (sine fine k) (quiet u) (law (v * u * h))))
     where
       out : (a i j l w c s : ℤ) → a *ℤ i *ℤ w -ℤ (a *ℤ j *ℤ c +ℤ a *ℤ l *ℤ s) ≡ a *ℤ (i *ℤ w -ℤ (j *ℤ c +ℤ l *ℤ s))
       out a i j l w c s = ring (a ∷ i ∷ j ∷ l ∷ w ∷ c ∷ s ∷ []) (search quotes depth 40) tt

@@ -1,7 +1,7 @@
--- Step 5 of the proof of demand 3, the distance theorem, for every scale, rounding and loudness: each line of the transform, times 2^60, is
--- within `bound` × 2^60 of the direct sum. By induction over the levels, of which `line-near` and `line-exact` are the step: levels 1 and 2 turn
+-- Step 5 of the proof of demand 3, the distance theorem, for every scale of at least 12, every rounding and table to the nearest, and every bound
+-- M of the samples up to 2^43: each line of the transform, times 2^60, is at most `bound` × 2^60 from the direct sum. By induction over the levels, of which `line-near` and `line-exact` are the step: levels 1 and 2 turn
 -- by quarters and lose nothing, and each level after them makes B into 5/2 B + n M / q + 1, rounded up.
--- Example: `distance near 32768 quiet P few xs long loud v h`, with near : Nearest q R C S and quiet : 32768 ≤ 2 ^ 43.
+-- Example: `distance near 32768 M-small P few xs long quiet v h`, with near : Nearest q R C S and M-small : 32768 ≤ 2 ^ 43.
 use mathlib.Core.Path.{_≡_, refl, sym, _∙_, ap, ap₂}
 use mathlib.Core.List.{List, [], _∷_}
 use Prim.Native.Nat.{ℕ, zero, suc, _+_, _*_, _-_, _^_, _≤_, _<_}
@@ -34,16 +34,16 @@ cas-zero : cas fine 0 ≡ pos (2 ^ 60)
 unfolding cas
 cas-zero = ap₂ _+ℤ_ cosine-zero sine-zero
 
-module _ {q : ℕ} {R : ℤ → ℤ} {C S : ℕ → ℤ} (near : Nearest q R C S) (M : ℕ) (quiet : M ≤ 2 ^ 43) where
+module _ {q : ℕ} {R : ℤ → ℤ} {C S : ℕ → ℤ} (near : Nearest q R C S) (M : ℕ) (M-small : M ≤ 2 ^ 43) where
   -- all lines of 2^P samples are within B. The induction carries g with 2^P g = 1,024.
-  abbrev Within : ℕ → ℕ → Type 0
-  Within P B = (g : ℕ) → 2 ^ P * g ≡ 1024 → (x : ℕ → ℤ) → ((t : ℕ) → natAbs (x t) ≤ M) → (v : ℕ) → v < 2 ^ P →
+  abbrev AllNear : ℕ → ℕ → Type 0
+  AllNear P B = (g : ℕ) → 2 ^ P * g ≡ 1024 → (x : ℕ → ℤ) → ((t : ℕ) → natAbs (x t) ≤ M) → (v : ℕ) → v < 2 ^ P →
       natAbs (lines R C S P x v *ℤ pos (2 ^ 60) -ℤ direct (2 ^ P) x v) ≤ B * 2 ^ 60
 
   -- one sample is its own spectrum
-  within-zero : Within 0 0
+  near-zero : AllNear 0 0
   unfolding sum tabulate levels reversed
-  within-zero g e x loud v h = rw (first, cas-zero, none (x 0) (pos (2 ^ 60))) (omega arith)
+  near-zero g e x quiet v h = rw (first, cas-zero, none (x 0) (pos (2 ^ 60))) (omega arith)
     where
       first : v ≡ 0
       first = omega arith
@@ -58,31 +58,31 @@ module _ {q : ℕ} {R : ℤ → ℤ} {C S : ℕ → ℤ} (near : Nearest q R C S
     halved : 2 ^ P * (2 * g) ≡ 1024
     halved = omega (arith, doubled)
 
-  within-suc : (P B : ℕ) → Within P B → Within (suc P) (ceiling (5 * B) 2 + ceiling (2 ^ P * M) q + 1)
-  within-suc P B ih g e x loud v h = rw (even-odd R C S P x v h, two-pow P)
-      (line-near (2 ^ P) g (pow-pos P) (doubled P g e) x M loud v near (lines R C S P (λ u. x (2 * u))) (lines R C S P (λ u. x (2 * u + 1))) B quiet
-      (ih (2 * g) (halved P g e) (λ u. x (2 * u)) (λ u. loud (2 * u))) (ih (2 * g) (halved P g e) (λ u. x (2 * u + 1)) (λ u. loud (2 * u + 1))))
+  near-suc : (P B : ℕ) → AllNear P B → AllNear (suc P) (ceiling (5 * B) 2 + ceiling (2 ^ P * M) q + 1)
+  near-suc P B ih g e x quiet v h = rw (even-odd R C S P x v h, two-pow P)
+      (line-near (2 ^ P) g (pow-pos P) (doubled P g e) x M quiet v near (lines R C S P (λ u. x (2 * u))) (lines R C S P (λ u. x (2 * u + 1))) B M-small
+      (ih (2 * g) (halved P g e) (λ u. x (2 * u)) (λ u. quiet (2 * u))) (ih (2 * g) (halved P g e) (λ u. x (2 * u + 1)) (λ u. quiet (2 * u + 1))))
 
   -- where a step of the turn is m quarters, the distance stays 0
-  within-exact : (P m : ℕ) → 2 ^ suc P * (m * 256) ≡ 1024 → Within P 0 → Within (suc P) 0
-  within-exact P m k ih g e x loud v h = rw (even-odd R C S P x v h, two-pow P)
-      (line-exact (2 ^ P) g (pow-pos P) (doubled P g e) x M loud v near (lines R C S P (λ u. x (2 * u))) (lines R C S P (λ u. x (2 * u + 1)))
+  near-exact : (P m : ℕ) → 2 ^ suc P * (m * 256) ≡ 1024 → AllNear P 0 → AllNear (suc P) 0
+  near-exact P m k ih g e x quiet v h = rw (even-odd R C S P x v h, two-pow P)
+      (line-exact (2 ^ P) g (pow-pos P) (doubled P g e) x M quiet v near (lines R C S P (λ u. x (2 * u))) (lines R C S P (λ u. x (2 * u + 1)))
       m (eq-of-mul-eq-mul-left (2 ^ suc P) (pow-pos (suc P)) g (m * 256) (e ∙ sym k))
-      (ih (2 * g) (halved P g e) (λ u. x (2 * u)) (λ u. loud (2 * u))) (ih (2 * g) (halved P g e) (λ u. x (2 * u + 1)) (λ u. loud (2 * u + 1))))
+      (ih (2 * g) (halved P g e) (λ u. x (2 * u)) (λ u. quiet (2 * u))) (ih (2 * g) (halved P g e) (λ u. x (2 * u + 1)) (λ u. quiet (2 * u + 1))))
 
-  within-bound : (P : ℕ) → Within P (bound q M P)
+  near-bound : (P : ℕ) → AllNear P (bound q M P)
   unfolding bound
-  within-bound zero = within-zero
-  within-bound (suc zero) = within-exact 0 2 refl within-zero
-  within-bound (suc (suc zero)) = within-exact 1 1 refl (within-exact 0 2 refl within-zero)
-  within-bound (suc (suc (suc P))) = within-suc (suc (suc P)) (bound q M (suc (suc P))) (within-bound (suc (suc P)))
+  near-bound zero = near-zero
+  near-bound (suc zero) = near-exact 0 2 refl near-zero
+  near-bound (suc (suc zero)) = near-exact 1 1 refl (near-exact 0 2 refl near-zero)
+  near-bound (suc (suc (suc P))) = near-suc (suc (suc P)) (bound q M (suc (suc P))) (near-bound (suc (suc P)))
 
   -- ---- for samples in a function, and for those of a list
 
   pub lines-near : (P : ℕ) → P ≤ 10 → (x : ℕ → ℤ) → ((t : ℕ) → natAbs (x t) ≤ M) → (v : ℕ) → v < 2 ^ P →
       natAbs (lines R C S P x v *ℤ pos (2 ^ 60) -ℤ direct (2 ^ P) x v) ≤ bound q M P * 2 ^ 60
-  lines-near P few = within-bound P (2 ^ (10 - P)) (whole-turn P few)
+  lines-near P few = near-bound P (2 ^ (10 - P)) (whole-turn P few)
 
   pub distance : (P : ℕ) → P ≤ 10 → (xs : List ℤ) → length xs ≡ 2 ^ P → ((t : ℕ) → natAbs (cell xs t) ≤ M) → (v : ℕ) → v < 2 ^ P →
       natAbs (cell (transformed R C S P xs) v *ℤ pos (2 ^ 60) -ℤ directSum fine xs v) ≤ bound q M P * 2 ^ 60
-  distance P few xs long loud v h = rw (transformed-lines R C S P xs v, directSum-is xs v, long) (lines-near P few (cell xs) loud v h)
+  distance P few xs long quiet v h = rw (transformed-lines R C S P xs v, directSum-is xs v, long) (lines-near P few (cell xs) quiet v h)

@@ -35,13 +35,13 @@ quarters-exact m j = zero-apart exactly
     exactly = rw (cas-quarters m j, cosine-quarters m, sine-quarters m) (out (cas fine j) (opposite j) (quarterUnit m .0) (quarterUnit m .1) (pos (2 ^ 60)))
 
 -- halves of n cells, where a turn has 2 n g steps; the 2n samples x, and a line v
-module _ (n g : ℕ) (z : zero < n) (e : 2 * n * g ≡ 1024) (x : ℕ → ℤ) (M : ℕ) (loud : (t : ℕ) → natAbs (x t) ≤ M) (v : ℕ) where
+module _ (n g : ℕ) (z : zero < n) (e : 2 * n * g ≡ 1024) (x : ℕ → ℤ) (M : ℕ) (quiet : (t : ℕ) → natAbs (x t) ≤ M) (v : ℕ) where
   -- the odd moments' part, within ε a sample
   part-near : (ε : ℕ) → Cas-near (v * g) ε →
       natAbs ((direct (2 * n) x v -ℤ evenSum n x (v % n)) *ℤ pos (2 ^ 60)
       -ℤ (oddSum n x (v % n) *ℤ cosine fine (v * g) +ℤ oddSum n x (mirror n v) *ℤ sine fine (v * g))) ≤ n * (M * ε)
   part-near ε law = rw (direct-split n g z e x v, rest (evenSum n x (v % n)) (sum n (λ u. x (2 * u + 1) *ℤ cas fine (v * u * (2 * g) + v * g))))
-      (odd-near n (2 * g) z (omega (arith, e)) (λ u. x (2 * u + 1)) M (λ u. loud (2 * u + 1)) v (v * g) ε law)
+      (odd-near n (2 * g) z (omega (arith, e)) (λ u. x (2 * u + 1)) M (λ u. quiet (2 * u + 1)) v (v * g) ε law)
     where
       rest : (a b : ℤ) → a +ℤ b -ℤ a ≡ b
       rest a b = ring (a ∷ b ∷ []) (search quotes) tt
@@ -61,13 +61,13 @@ module _ (n g : ℕ) (z : zero < n) (e : 2 * n * g ≡ 1024) (x : ℕ → ℤ) (
     pub line-near : (B : ℕ) → M ≤ 2 ^ 43 →
         ((w : ℕ) → w < n → natAbs (a w *ℤ pos (2 ^ 60) -ℤ evenSum n x w) ≤ B * 2 ^ 60) → ((w : ℕ) → w < n → natAbs (b w *ℤ pos (2 ^ 60) -ℤ oddSum n x w) ≤ B * 2 ^ 60) →
         natAbs (line R C S n a b v *ℤ pos (2 ^ 60) -ℤ direct (2 * n) x v) ≤ (ceiling (5 * B) 2 + ceiling (n * M) q + 1) * 2 ^ 60
-    line-near B quiet ha hb = let w = v % n in let w' = mirror n v in let k = v * g in rw (whole-steps (2 * n) g v (omega arith) e)
+    line-near B M-small ha hb = let w = v % n in let w' = mirror n v in let k = v * g in rw (whole-steps (2 * n) g v (omega arith) e)
         (step q (2 ^ 44) (a w) (R (b w *ℤ C k +ℤ b w' *ℤ S k)) (b w) (b w') (C k) (S k) (cosine fine k) (sine fine k)
         (evenSum n x w) (oddSum n x w) (oddSum n x w') (direct (2 * n) x v) (n * M) B
         (near .scale) (omega arith) (ha w (mod-lt v z)) (hb w (mod-lt v z)) (hb w' (mod-lt (n - w) z))
         (near .cosines k) (near .sines k) (near .rounding (b w *ℤ C k +ℤ b w' *ℤ S k))
-        (small quiet _ (part-near (2 ^ 67) (λ j. cas-sum j k))) (fine-size k .pair-size)
-        (direct-pair-size n (2 * g) z (omega (arith, e)) (λ u. x (2 * u + 1)) M (λ u. loud (2 * u + 1)) v))
+        (small M-small _ (part-near (2 ^ 67) (λ j. cas-sum j k))) (fine-size k .pair-size)
+        (direct-pair-size n (2 * g) z (omega (arith, e)) (λ u. x (2 * u + 1)) M (λ u. quiet (2 * u + 1)) v))
 
     -- no distance comes in where the angles are quarter turns
     pub line-exact : (m : ℕ) → g ≡ m * 256 →

@@ -1,4 +1,4 @@
--- `join` is right because lines v and n + v of a pair are a(v) and the rounded quotient of the same sum, once with its sign changed.
+-- `join` is right because lines v and n + v of a pair are a(v) plus the rounded quotient of the same sum, once with its sign changed.
 use borrow.Author.Needs.{needs, sfits-of}
 use mathlib.Core.Path.{_≡_, refl, sym, _∙_, ap, ap₂}
 use mathlib.Core.List.{List, [], _∷_}
@@ -19,26 +19,26 @@ use Rattle.ints.proofs.Filling.{filled-all}
 use Rattle.refusal.specs.BlockKinds.{SCALE}
 use Rattle.spectrum.specs.Levels.{cell, line}
 use Rattle.spectrum.specs.Spectrum.{quotient, tableCosine, tableSine}
-use Rattle.hartley.specs.Workers.{Joins, Within}
-use Rattle.hartley.proofs.Halves.{Places, places, cosines-many, sines-many, cosine-small, sine-small, first-line, second-line, Second, written-first, written-second, both-halves}
+use Rattle.hartley.specs.Workers.{Joins, NoneAbove}
+use Rattle.hartley.proofs.Halves.{Places, places, cosines-many, sines-many, cosine-small, sine-small, line-in-first-half, line-in-second-half, SecondFilled, written-first, written-second, both-halves}
 use Rattle.hartley.proofs.join.Statement.{statement}
 use Rattle.hartley.proofs.join.Tie as tie
 
 abbrev Inv-loop : tie.InvT-loop
-Inv-loop a b cells₀ cosines sines stride n v₀ mirror₀ step₀ cells v mirror step =
-    (v ≤ length a) × (mirror ≡ (length a - v) % length a) × (step ≡ v * stride) × (length cells ≡ 2 * length a)
-    × Filled (pos 0) (line quotient tableCosine tableSine (length a) (cell a) (cell b)) v cells × Second (line quotient tableCosine tableSine (length a) (cell a) (cell b)) (length a) v cells
+Inv-loop a b cells₀ cosines sines stride n v₀ mirror₀ entry₀ cells v mirror entry =
+    (v ≤ length a) × (mirror ≡ (length a - v) % length a) × (entry ≡ v * stride) × (length cells ≡ 2 * length a)
+    × Filled (pos 0) (line quotient tableCosine tableSine (length a) (cell a) (cell b)) v cells × SecondFilled (line quotient tableCosine tableSine (length a) (cell a) (cell b)) (length a) v cells
 
 abbrev μ-loop : tie.MeasureT-loop
-μ-loop a b cells₀ cosines sines stride n v₀ mirror₀ step₀ cells v mirror step = length a - v
+μ-loop a b cells₀ cosines sines stride n v₀ mirror₀ entry₀ cells v mirror entry = length a - v
 
 -- ---- the round to which a point of the loop's body belongs: after the sum, after the first line, after the second
 
-abbrev of-products : tie.After-products Inv-loop μ-loop → tie.In-loop Inv-loop μ-loop
-of-products c = c .before .before .before .before .before
+abbrev of-sum : tie.After-sum-of-products Inv-loop μ-loop → tie.In-loop Inv-loop μ-loop
+of-sum c = c .before .before .before .before .before
 
 abbrev of-first : tie.After-plus-quotient Inv-loop μ-loop → tie.In-loop Inv-loop μ-loop
-of-first c = of-products (c .before .before)
+of-first c = of-sum (c .before .before)
 
 abbrev of-second : tie.After-plus-quotient2 Inv-loop μ-loop → tie.In-loop Inv-loop μ-loop
 of-second c = of-first (c .before .before)
@@ -48,10 +48,10 @@ of-second c = of-first (c .before .before)
 read-small : (z : ℤ) (b : ℕ) → b < 2 ^ 63 → natAbs z ≤ b → natAbs (toZ w64 (ofZ w64 z)) ≤ b
 read-small z b k h = rw (reads-back z b k h) h
 
-read-cell : (xs : List ℤ) (i : ℕ) → Within (2 ^ 40) xs → natAbs (toZ w64 (ofZ w64 (cell xs i))) ≤ 2 ^ 40
+read-cell : (xs : List ℤ) (i : ℕ) → NoneAbove (2 ^ 40) xs → natAbs (toZ w64 (ofZ w64 (cell xs i))) ≤ 2 ^ 40
 read-cell xs i h = read-small (cell xs i) (2 ^ 40) (omega arith) (h .size i)
 
-cell-back : (xs : List ℤ) (i : ℕ) → Within (2 ^ 40) xs → toZ w64 (ofZ w64 (cell xs i)) ≡ cell xs i
+cell-back : (xs : List ℤ) (i : ℕ) → NoneAbove (2 ^ 40) xs → toZ w64 (ofZ w64 (cell xs i)) ≡ cell xs i
 cell-back xs i h = reads-back (cell xs i) (2 ^ 40) (omega arith) (h .size i)
 
 minus : (z : ℤ) → natAbs z ≤ 2 ^ 56 → natAbs (pos 0 -ℤ z) ≤ 2 ^ 56
@@ -62,18 +62,18 @@ minus-is z = ring (z ∷ []) (search quotes) tt
 
 -- ---- line v: its places, the sum of both products, and the two lines
 
-here : (c : tie.In-loop Inv-loop μ-loop) → let s = c .before .before .args in let l = c .before .loop in Places (length (now (s .a))) (s .stride) (l .v) (l .mirror) (l .step)
-here c = let l = c .before .loop in places (c .before .before .pre .0) (l .v) (l .mirror) (l .step) (c .loop-test .taken) (l .inv .1) (l .inv .2)
+here : (c : tie.In-loop Inv-loop μ-loop) → let s = c .before .before .args in let l = c .before .loop in Places (length (now (s .a))) (s .stride) (l .v) (l .mirror) (l .entry)
+here c = let l = c .before .loop in places (c .before .before .pre .0) (l .v) (l .mirror) (l .entry) (c .loop-test .taken) (l .inv .1) (l .inv .2)
 
-sum-read : (c : tie.After-products Inv-loop μ-loop) → let i = of-products c in let s = i .before .before .args in let l = i .before .loop in
-    toZ w64 (ofZ w64 (c .products .result)) ≡ cell (now (s .b)) (l .v) *ℤ cell (now (s .cosines)) (l .step) +ℤ cell (now (s .b)) (l .mirror) *ℤ cell (now (s .sines)) (l .step)
-sum-read c = let i = (of-products c) in let s = i .before .before .args in let l = i .before .loop in let q = i .before .before .pre in let p = here i in
-    reads-back (c .products .result) (2 ^ 56) (omega arith) (c .products .ensures .1) ∙ c .products .ensures .0
+sum-read : (c : tie.After-sum-of-products Inv-loop μ-loop) → let i = of-sum c in let s = i .before .before .args in let l = i .before .loop in
+    toZ w64 (ofZ w64 (c .sum-of-products .result)) ≡ cell (now (s .b)) (l .v) *ℤ cell (now (s .cosines)) (l .entry) +ℤ cell (now (s .b)) (l .mirror) *ℤ cell (now (s .sines)) (l .entry)
+sum-read c = let i = (of-sum c) in let s = i .before .before .args in let l = i .before .loop in let q = i .before .before .pre in let p = here i in
+    reads-back (c .sum-of-products .result) (2 ^ 56) (omega arith) (c .sum-of-products .ensures .1) ∙ c .sum-of-products .ensures .0
     ∙ rw (
       cell-back (now (s .b)) (l .v) (q .2),
       cell-back (now (s .b)) (l .mirror) (q .2),
-      reads-back (cell (now (s .cosines)) (l .step)) SCALE (omega arith) (cosine-small (q .0) (l .step) (p .step-in)),
-      reads-back (cell (now (s .sines)) (l .step)) SCALE (omega arith) (sine-small (q .0) (l .step) (p .step-in)),
+      reads-back (cell (now (s .cosines)) (l .entry)) SCALE (omega arith) (cosine-small (q .0) (l .entry) (p .entry-in)),
+      reads-back (cell (now (s .sines)) (l .entry)) SCALE (omega arith) (sine-small (q .0) (l .entry) (p .entry-in)),
     ) refl
 
 first-read : (c : tie.After-plus-quotient Inv-loop μ-loop) → let i = of-first c in let s = i .before .before .args in
@@ -81,16 +81,16 @@ first-read : (c : tie.After-plus-quotient Inv-loop μ-loop) → let i = of-first
 first-read c = let i = (of-first c) in let s = i .before .before .args in let l = i .before .loop in let q = i .before .before .pre in
     toZ-ofZ (sfits-of (c .plus-quotient .ok)) ∙ c .plus-quotient .ensures
     ∙ ap₂ (λ (a y : ℤ). a +ℤ quotient y) (cell-back (now (s .a)) (l .v) (q .1)) (sum-read (c .before .before))
-    ∙ sym (first-line (q .0) (cell (now (s .a))) (cell (now (s .b))) (l .v) (l .mirror) (l .step) (here i) (l .inv .1) (l .inv .2))
+    ∙ sym (line-in-first-half (q .0) (cell (now (s .a))) (cell (now (s .b))) (l .v) (l .mirror) (l .entry) (here i) (l .inv .1) (l .inv .2))
 
 second-read : (c : tie.After-plus-quotient2 Inv-loop μ-loop) → let i = of-second c in let s = i .before .before .args in
     toZ w64 (ofZ w64 (c .plus-quotient2 .result)) ≡ line quotient tableCosine tableSine (length (now (s .a))) (cell (now (s .a))) (cell (now (s .b))) (length (now (s .a)) + i .before .loop .v)
 second-read c = let i = (of-second c) in let s = i .before .before .args in let l = i .before .loop in let q = i .before .before .pre in
-    let z = c .before .before .before .before .products in let y = toZ w64 (ofZ w64 (z .result)) in
+    let z = c .before .before .before .before .sum-of-products in let y = toZ w64 (ofZ w64 (z .result)) in
     toZ-ofZ (sfits-of (c .plus-quotient2 .ok)) ∙ c .plus-quotient2 .ensures
     ∙ ap₂ (λ (a y : ℤ). a +ℤ quotient y) (cell-back (now (s .a)) (l .v) (q .1))
     (reads-back (pos 0 -ℤ y) (2 ^ 56) (omega arith) (minus y (read-small (z .result) (2 ^ 56) (omega arith) (z .ensures .1))) ∙ minus-is y ∙ ap negℤ (sum-read (c .before .before .before .before)))
-    ∙ sym (second-line (q .0) (cell (now (s .a))) (cell (now (s .b))) (l .v) (l .mirror) (l .step) (here i) (l .inv .1) (l .inv .2))
+    ∙ sym (line-in-second-half (q .0) (cell (now (s .a))) (cell (now (s .b))) (l .v) (l .mirror) (l .entry) (here i) (l .inv .1) (l .inv .2))
 
 one-more : (v stride : ℕ) → v * stride + stride ≡ (v + 1) * stride
 one-more v stride = omega arith
@@ -99,47 +99,47 @@ loop-holds : tie.Need-loop-holds Inv-loop μ-loop
 loop-holds c = let n = length (now (c .args .a)) in
     (omega arith, sym (ap (λ (x : ℕ). x % n) (sub-zero n) ∙ mod-self n), sym (zero-mul (c .args .stride)), c .pre .4, λ i h. absurd (not-suc-le-zero h), λ i h. absurd (not-suc-le-zero h))
 
-mul-products : tie.Need-mul-products Inv-loop μ-loop
-mul-products c = let p = here c in search needs
+mul-sum-of-products : tie.Need-mul-sum-of-products Inv-loop μ-loop
+mul-sum-of-products c = let p = here c in search needs
 
-shared-slice-copy-out-products : tie.Need-shared-slice-copy-out-products Inv-loop μ-loop
-shared-slice-copy-out-products c = let p = here c in search needs
+shared-slice-copy-out-sum-of-products : tie.Need-shared-slice-copy-out-sum-of-products Inv-loop μ-loop
+shared-slice-copy-out-sum-of-products c = let p = here c in search needs
 
-mul-products-2 : tie.Need-mul-products-2 Inv-loop μ-loop
-mul-products-2 c = let p = here (c .before) in search needs
+mul-sum-of-products-2 : tie.Need-mul-sum-of-products-2 Inv-loop μ-loop
+mul-sum-of-products-2 c = let p = here (c .before) in search needs
 
-shared-slice-copy-out-products-2 : tie.Need-shared-slice-copy-out-products-2 Inv-loop μ-loop
-shared-slice-copy-out-products-2 c = let p = here (c .before) in search needs
+shared-slice-copy-out-sum-of-products-2 : tie.Need-shared-slice-copy-out-sum-of-products-2 Inv-loop μ-loop
+shared-slice-copy-out-sum-of-products-2 c = let p = here (c .before) in search needs
 
-mul-products-3 : tie.Need-mul-products-3 Inv-loop μ-loop
-mul-products-3 c = let p = here (c .before .before) in let l = cosines-many (c .before .before .before .before .pre .0) in search needs
+mul-sum-of-products-3 : tie.Need-mul-sum-of-products-3 Inv-loop μ-loop
+mul-sum-of-products-3 c = let p = here (c .before .before) in let l = cosines-many (c .before .before .before .before .pre .0) in search needs
 
-shared-slice-copy-out-products-3 : tie.Need-shared-slice-copy-out-products-3 Inv-loop μ-loop
-shared-slice-copy-out-products-3 c = let p = here (c .before .before) in let l = cosines-many (c .before .before .before .before .pre .0) in search needs
+shared-slice-copy-out-sum-of-products-3 : tie.Need-shared-slice-copy-out-sum-of-products-3 Inv-loop μ-loop
+shared-slice-copy-out-sum-of-products-3 c = let p = here (c .before .before) in let l = cosines-many (c .before .before .before .before .pre .0) in search needs
 
-mul-products-4 : tie.Need-mul-products-4 Inv-loop μ-loop
-mul-products-4 c = let p = here (c .before .before .before) in let l = sines-many (c .before .before .before .before .before .pre .0) in search needs
+mul-sum-of-products-4 : tie.Need-mul-sum-of-products-4 Inv-loop μ-loop
+mul-sum-of-products-4 c = let p = here (c .before .before .before) in let l = sines-many (c .before .before .before .before .before .pre .0) in search needs
 
-shared-slice-copy-out-products-4 : tie.Need-shared-slice-copy-out-products-4 Inv-loop μ-loop
-shared-slice-copy-out-products-4 c = let p = here (c .before .before .before) in let l = sines-many (c .before .before .before .before .before .pre .0) in search needs
+shared-slice-copy-out-sum-of-products-4 : tie.Need-shared-slice-copy-out-sum-of-products-4 Inv-loop μ-loop
+shared-slice-copy-out-sum-of-products-4 c = let p = here (c .before .before .before) in let l = sines-many (c .before .before .before .before .before .pre .0) in search needs
 
-products-requires : tie.Need-products-requires Inv-loop μ-loop
-products-requires c κs = let i = c .before .before .before .before in let s = i .before .before .args in let l = i .before .loop in let q = i .before .before .pre in let p = here i in (
+sum-of-products-requires : tie.Need-sum-of-products-requires Inv-loop μ-loop
+sum-of-products-requires c κs = let i = c .before .before .before .before in let s = i .before .before .args in let l = i .before .loop in let q = i .before .before .pre in let p = here i in (
   read-cell (now (s .b)) (l .v) (q .2),
   read-cell (now (s .b)) (l .mirror) (q .2),
-  read-small (cell (now (s .cosines)) (l .step)) SCALE (omega arith) (cosine-small (q .0) (l .step) (p .step-in)),
-  read-small (cell (now (s .sines)) (l .step)) SCALE (omega arith) (sine-small (q .0) (l .step) (p .step-in)),
+  read-small (cell (now (s .cosines)) (l .entry)) SCALE (omega arith) (cosine-small (q .0) (l .entry) (p .entry-in)),
+  read-small (cell (now (s .sines)) (l .entry)) SCALE (omega arith) (sine-small (q .0) (l .entry) (p .entry-in)),
 )
 
 mul-plus-quotient : tie.Need-mul-plus-quotient Inv-loop μ-loop
-mul-plus-quotient c = let p = here (of-products c) in search needs
+mul-plus-quotient c = let p = here (of-sum c) in search needs
 
 shared-slice-copy-out-plus-quotient : tie.Need-shared-slice-copy-out-plus-quotient Inv-loop μ-loop
-shared-slice-copy-out-plus-quotient c = let p = here (of-products c) in search needs
+shared-slice-copy-out-plus-quotient c = let p = here (of-sum c) in search needs
 
 plus-quotient-requires : tie.Need-plus-quotient-requires Inv-loop μ-loop
-plus-quotient-requires c κs = let s = (of-products (c .before)) .before .before in let z = c .before .products in
-    (read-cell (now (s .args .a)) ((of-products (c .before)) .before .loop .v) (s .pre .1), read-small (z .result) (2 ^ 56) (omega arith) (z .ensures .1))
+plus-quotient-requires c κs = let s = (of-sum (c .before)) .before .before in let z = c .before .sum-of-products in
+    (read-cell (now (s .args .a)) ((of-sum (c .before)) .before .loop .v) (s .pre .1), read-small (z .result) (2 ^ 56) (omega arith) (z .ensures .1))
 
 mul-t22 : tie.Need-mul-t22 Inv-loop μ-loop
 mul-t22 c = let p = here (of-first c) in search needs
@@ -155,11 +155,11 @@ shared-slice-copy-out-plus-quotient-2 :
 shared-slice-copy-out-plus-quotient-2 c = let p = here (of-first c) in search needs
 
 sub-plus-quotient : tie.Need-sub-plus-quotient Inv-loop μ-loop
-sub-plus-quotient c = let z = c .before .before .before .products in let y = toZ w64 (ofZ w64 (z .result)) in
+sub-plus-quotient c = let z = c .before .before .before .sum-of-products in let y = toZ w64 (ofZ w64 (z .result)) in
     fits (pos 0 -ℤ y) (omega (arith, minus y (read-small (z .result) (2 ^ 56) (omega arith) (z .ensures .1))))
 
 plus-quotient-requires-2 : tie.Need-plus-quotient-requires-2 Inv-loop μ-loop
-plus-quotient-requires-2 c κs = let s = (of-first (c .before)) .before .before in let z = c .before .before .before .products in let y = toZ w64 (ofZ w64 (z .result)) in (
+plus-quotient-requires-2 c κs = let s = (of-first (c .before)) .before .before in let z = c .before .before .before .sum-of-products in let y = toZ w64 (ofZ w64 (z .result)) in (
   read-cell (now (s .args .a)) ((of-first (c .before)) .before .loop .v) (s .pre .1),
   read-small (pos 0 -ℤ y) (2 ^ 56) (omega arith) (minus y (read-small (z .result) (2 ^ 56) (omega arith) (z .ensures .1))),
 )
@@ -179,8 +179,8 @@ add-v c = let p = here (of-second c) in search needs
 sub-mirror : tie.Need-sub-mirror Inv-loop μ-loop
 sub-mirror c = let p = here (of-second c) in search needs
 
-add-step : tie.Need-add-step Inv-loop μ-loop
-add-step c = let p = here (of-second c) in let l = cosines-many ((of-second c) .before .before .pre .0) in search needs
+add-entry : tie.Need-add-entry Inv-loop μ-loop
+add-entry c = let p = here (of-second c) in let l = cosines-many ((of-second c) .before .before .pre .0) in search needs
 
 loop-less : tie.Need-loop-less Inv-loop μ-loop
 loop-less c = let p = here (of-second c) in search needs
@@ -209,15 +209,15 @@ join-spec =
     Inv-loop
     μ-loop
     loop-holds
-    mul-products
-    shared-slice-copy-out-products
-    mul-products-2
-    shared-slice-copy-out-products-2
-    mul-products-3
-    shared-slice-copy-out-products-3
-    mul-products-4
-    shared-slice-copy-out-products-4
-    products-requires
+    mul-sum-of-products
+    shared-slice-copy-out-sum-of-products
+    mul-sum-of-products-2
+    shared-slice-copy-out-sum-of-products-2
+    mul-sum-of-products-3
+    shared-slice-copy-out-sum-of-products-3
+    mul-sum-of-products-4
+    shared-slice-copy-out-sum-of-products-4
+    sum-of-products-requires
     mul-plus-quotient
     shared-slice-copy-out-plus-quotient
     plus-quotient-requires
@@ -232,7 +232,7 @@ join-spec =
     slice-set-from-cells-2
     add-v
     sub-mirror
-    add-step
+    add-entry
     loop-less
     loop-again
     same-length

@@ -17,7 +17,7 @@ use Rattle.spectrum.specs.Levels.{cell, line, joined, level}
 use Rattle.spectrum.specs.Spectrum.{quotient, tableCosine, tableSine}
 use Rattle.spectrum.proofs.Stages.{line-cong}
 use Rattle.spectrum.proofs.Pairs.{in-pair}
-use Rattle.hartley.specs.Workers.{Joins, Within}
+use Rattle.hartley.specs.Workers.{Joins, NoneAbove}
 use Rattle.hartley.proofs.join_level.Statement.{statement}
 use Rattle.hartley.proofs.join_level.Tie as tie
 

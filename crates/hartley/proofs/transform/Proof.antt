@@ -14,7 +14,7 @@ use Rattle.spectrum.specs.Levels.{permuted, levels, transformed}
 use Rattle.spectrum.specs.Spectrum.{forward, forwardAt, quotient, tableCosine, tableSine}
 use Rattle.spectrum.proofs.Stages.{length-permuted}
 use Rattle.spectrum.proofs.Demand3.{forward-room}
-use Rattle.hartley.specs.Workers.{Ready, Runs, turned, Within}
+use Rattle.hartley.specs.Workers.{Ready, Runs, turned, NoneAbove}
 use Rattle.hartley.proofs.transform.Statement.{statement}
 use Rattle.hartley.proofs.transform.Tie as tie
 

@@ -1,4 +1,4 @@
--- `products` is right because no product is above 2^55 in magnitude, so nothing overflows and the machine's sum is the exact one.
+-- `sum_of_products` is right because no product is above 2^55 in magnitude, so nothing overflows and the machine's sum is the exact one.
 use borrow.Author.Needs.{needs}
 use mathlib.Core.List.{[], _∷_}
 use Prim.Native.Nat.{_^_, _≤_}
@@ -12,8 +12,8 @@ use Rattle.ints.proofs.Ring.{quotes, ring}
 use Rattle.ints.proofs.Abs.{abs-plus, abs-times}
 use Rattle.ints.proofs.Fit.{fits}
 use Rattle.refusal.specs.BlockKinds.{SCALE}
-use Rattle.hartley.proofs.products.Statement.{statement}
-use Rattle.hartley.proofs.products.Tie as tie
+use Rattle.hartley.proofs.sum_of_products.Statement.{statement}
+use Rattle.hartley.proofs.sum_of_products.Tie as tie
 
 -- a cell and a cosine or sine
 product-size : (x y : ℤ) → natAbs x ≤ 2 ^ 40 → natAbs y ≤ SCALE → natAbs (x *ℤ y) ≤ 2 ^ 55
@@ -46,5 +46,5 @@ returns c = let a = c .args in let f = c .fits in
     simp (toZ-ofZ (f .b), toZ-ofZ (f .mirror), toZ-ofZ (f .cosine), toZ-ofZ (f .sine), toZ-ofZ, product-fits, sum-fits)
     (ring (a .b ∷ a .mirror ∷ a .cosine ∷ a .sine ∷ []) (search quotes) tt, search sum-size)
 
-pub products-spec : {M : Type 1} → statement M
-products-spec = tie.close (tie.spec mul-result mul-result-2 add-result returns)
+pub sum-of-products-spec : {M : Type 1} → statement M
+sum-of-products-spec = tie.close (tie.spec mul-result mul-result-2 add-result returns)
