@@ -18,9 +18,10 @@ use Rattle.refusal.specs.BlockKinds.{SCALE, SCALE-DIGITS}
 use Rattle.cosine.specs.Cosine.{quarterTable}
 use Rattle.cosine.proofs.Turn.{cosine-half, sine-half}
 use Rattle.cosine.proofs.TableNear.{table-cosine-size, table-sine-size, table-end}
-use Rattle.spectrum.specs.Levels.{cell, line}
-use Rattle.spectrum.specs.Spectrum.{quotient, tableCosine, tableSine}
+use Rattle.spectrum.specs.Levels.{cell}
+use Rattle.spectrum.specs.Spectrum.{tableCosine, tableSine, lineAt}
 use Rattle.spectrum.proofs.Pairs.{first-half, second-half}
+use Rattle.ints.specs.Quotient.{rounded}
 use Rattle.hartley.specs.Workers.{Joins}
 
 -- ---- where they lie
@@ -50,10 +51,10 @@ module _ {n stride : ℕ} {cosines sines : List ℤ} (J : Joins n stride cosines
   pub sines-many : length sines ≡ n * stride
   sines-many = ap length (J .at-sines) ∙ length-tabulate (n * stride) _
 
-  cosine-at : (k : ℕ) → k < n * stride → cell cosines k ≡ tableCosine (k * J .apart)
+  cosine-at : (k : ℕ) → k < n * stride → cell cosines k ≡ tableCosine SCALE-DIGITS (k * J .apart)
   cosine-at k h = ap (λ (l : List ℤ). cell l k) (J .at-cosines) ∙ getD-tabulate (n * stride) _ (pos 0) k h
 
-  sine-at : (k : ℕ) → k < n * stride → cell sines k ≡ tableSine (k * J .apart)
+  sine-at : (k : ℕ) → k < n * stride → cell sines k ≡ tableSine SCALE-DIGITS (k * J .apart)
   sine-at k h = ap (λ (l : List ℤ). cell l k) (J .at-sines) ∙ getD-tabulate (n * stride) _ (pos 0) k h
 
   pub cosine-small : (k : ℕ) → k < n * stride → natAbs (cell cosines k) ≤ SCALE
@@ -74,16 +75,16 @@ module _ {n stride : ℕ} {cosines sines : List ℤ} (J : Joins n stride cosines
 
     -- the same sum, as the laws of a pair have it
     same-sum : let step = v * (stride * J .apart) in
-        b v *ℤ tableCosine step +ℤ b ((n - v) % n) *ℤ tableSine step ≡ sum
+        b v *ℤ tableCosine SCALE-DIGITS step +ℤ b ((n - v) % n) *ℤ tableSine SCALE-DIGITS step ≡ sum
     same-sum = rw (sym at-step, sym m, sym (cosine-at entry (p .entry-in)), sym (sine-at entry (p .entry-in))) refl
 
-    pub line-in-first-half : line quotient tableCosine tableSine n a b v ≡ a v +ℤ quotient sum
-    line-in-first-half = first-half quotient tableCosine tableSine n (J .some) a b (stride * J .apart) (J .turn) v (p .below)
-        ∙ ap (λ (y : ℤ). a v +ℤ quotient y) same-sum
+    pub line-in-first-half : lineAt SCALE-DIGITS n a b v ≡ a v +ℤ rounded SCALE sum
+    line-in-first-half = first-half (rounded SCALE) (tableCosine SCALE-DIGITS) (tableSine SCALE-DIGITS) n (J .some) a b (stride * J .apart) (J .turn) v (p .below)
+        ∙ ap (λ (y : ℤ). a v +ℤ rounded SCALE y) same-sum
 
-    pub line-in-second-half : line quotient tableCosine tableSine n a b (n + v) ≡ a v +ℤ quotient (negℤ sum)
-    line-in-second-half = second-half quotient tableCosine tableSine n (J .some) a b (stride * J .apart) (J .turn) v (p .below)
-        (cosine-half (quarterTable SCALE-DIGITS) end) (sine-half (quarterTable SCALE-DIGITS) end) ∙ ap (λ (y : ℤ). a v +ℤ quotient (negℤ y)) same-sum
+    pub line-in-second-half : lineAt SCALE-DIGITS n a b (n + v) ≡ a v +ℤ rounded SCALE (negℤ sum)
+    line-in-second-half = second-half (rounded SCALE) (tableCosine SCALE-DIGITS) (tableSine SCALE-DIGITS) n (J .some) a b (stride * J .apart) (J .turn) v (p .below)
+        (cosine-half (quarterTable SCALE-DIGITS) end) (sine-half (quarterTable SCALE-DIGITS) end) ∙ ap (λ (y : ℤ). a v +ℤ rounded SCALE (negℤ y)) same-sum
       where
         end : quarterTable SCALE-DIGITS 256 ≡ 0
         end = table-end SCALE-DIGITS (omega arith)

@@ -19,7 +19,7 @@ use Rattle.refusal.specs.BlockKinds.{kindOf}
 use Rattle.refusal.proofs.Lengths.{Kind-length, kind-length}
 use Rattle.spectrum.specs.Levels.{cell}
 use Rattle.hartley.specs.Calls.{notLoud, thenLoud, tested}
-use Rattle.hartley.specs.Workers.{Ready, NoneAbove}
+use Rattle.hartley.specs.Workers.{Ready}
 
 -- ---- a list with no loud cell
 

@@ -1,30 +1,24 @@
 -- What the engine's inner functions ask of their callers and leave. None of it stands in a public promise.
 use mathlib.Core.Path.{_≡_}
-use mathlib.Core.Bool.{cond}
 use mathlib.Core.List.{List}
-use Prim.Native.Nat.{ℕ, zero, suc, _+_, _-_, _*_, _/_, _^_, _≤_, _<_}
-use lib.Dec.{ltb}
+use Prim.Native.Nat.{ℕ, _*_, _/_, _^_, _≤_, _<_}
 use lib.IntN.{ℤ, natAbs}
-use lib.ListN.{length, getD}
+use lib.ListN.{length}
 use Rattle.ints.specs.Tabulate.{tabulate}
-use Rattle.refusal.specs.BlockKinds.{TURN}
-use Rattle.spectrum.specs.Levels.{cell, levels}
-use Rattle.spectrum.specs.Spectrum.{quotient, tableCosine, tableSine}
+use Rattle.refusal.specs.BlockKinds.{SCALE-DIGITS, TURN}
+use Rattle.spectrum.specs.Levels.{cell}
+use Rattle.spectrum.specs.Spectrum.{tableCosine, tableSine, lineAt, levelsAt}
+use Rattle.spectrum.specs.Limits.{LOUDEST-LINE, LARGEST-CELL}
 
 -- no cell is above b in magnitude
 pub record NoneAbove (b : ℕ) (xs : List ℤ) : Type 0 where
   pub size : (i : ℕ) → natAbs (cell xs i) ≤ b
 
--- one more, in P binary digits of which the first is the lowest: a 0 becomes 1, and of a 1 there is a carry to the digit after it
-unfoldable pub nextReversed : ℕ → ℕ → ℕ
-nextReversed zero r = r
-nextReversed (suc P) r = cond (ltb r (2 ^ P)) (r + 2 ^ P) (nextReversed P (r - 2 ^ P))
-
 -- 2^P cells, P at most 10, that leave room for all levels
 pub record Ready (P : ℕ) (xs : List ℤ) : Type 0 where
   pub most : P ≤ 10
   pub long : length xs ≡ 2 ^ P
-  pub quiet : NoneAbove (2 ^ 28) xs
+  pub quiet : NoneAbove (LOUDEST-LINE) xs
 
 -- the table's cosines, or sines, that a block of N cells needs: N/2 of them, 1,024 / N steps apart
 abbrev pub turned : (ℕ → ℤ) → ℕ → List ℤ
@@ -35,14 +29,25 @@ pub record Runs (P : ℕ) (cells kept cosines sines : List ℤ) : Type 0 where
   pub most : P ≤ 10
   pub long : length cells ≡ 2 ^ P
   pub as-long : length kept ≡ 2 ^ P
-  pub at-cosines : cosines ≡ turned tableCosine (2 ^ P)
-  pub at-sines : sines ≡ turned tableSine (2 ^ P)
-  pub quiet : (L : ℕ) → L < P → NoneAbove (2 ^ 40) (levels quotient tableCosine tableSine L cells)
+  pub at-cosines : cosines ≡ turned (tableCosine SCALE-DIGITS) (2 ^ P)
+  pub at-sines : sines ≡ turned (tableSine SCALE-DIGITS) (2 ^ P)
+  pub quiet : (L : ℕ) → L < P → NoneAbove (LARGEST-CELL) (levelsAt SCALE-DIGITS L cells)
 
--- halves of n cells can be joined: every stride-th of the cosines and sines belongs to one line more; they are `apart` steps of the turn apart
+-- halves of n cells can be joined: line v takes entry v × stride of the two lists, whose neighbours are `apart` steps of the turn apart
 pub record Joins (n stride : ℕ) (cosines sines : List ℤ) : Type 0 where
   pub some : 0 < n
   pub apart : ℕ
   pub turn : 2 * n * (stride * apart) ≡ TURN
-  pub at-cosines : cosines ≡ tabulate (n * stride) (λ j. tableCosine (j * apart))
-  pub at-sines : sines ≡ tabulate (n * stride) (λ j. tableSine (j * apart))
+  pub at-cosines : cosines ≡ tabulate (n * stride) (λ j. tableCosine SCALE-DIGITS (j * apart))
+  pub at-sines : sines ≡ tabulate (n * stride) (λ j. tableSine SCALE-DIGITS (j * apart))
+
+-- a and b are such halves, and there are cells for all lines
+pub record Pair (a b cells : List ℤ) : Type 0 where
+  pub a-quiet : NoneAbove LARGEST-CELL a
+  pub b-quiet : NoneAbove LARGEST-CELL b
+  pub b-long : length b ≡ length a
+  pub all-lines : length cells ≡ 2 * length a
+
+-- the lines of the joined halves a and b
+abbrev pub joinedHalves : ℕ → List ℤ → List ℤ → List ℤ
+joinedHalves s a b = tabulate (2 * length a) (lineAt s (length a) (cell a) (cell b))

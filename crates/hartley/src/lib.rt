@@ -5,17 +5,17 @@ use refusal::Refusal;
 ghost use mathlib.Core.Path.{_≡_};
 ghost use mathlib.Core.List.{map};
 ghost use Prim.Native.Nat.{ℕ, _+_, _*_, _/_, _%_, _^_, _≤_, _<_};
-ghost use lib.IntN.{negℤ, pos, _+ℤ_, _*ℤ_, natAbs};
+ghost use lib.IntN.{_+ℤ_, _*ℤ_, natAbs};
 ghost use lib.ListN.{length};
 ghost use Rattle.ints.specs.Quotient.{rounded};
 ghost use Rattle.ints.specs.Sum.{sum};
-ghost use Rattle.ints.specs.Tabulate.{tabulate};
-ghost use Rattle.refusal.specs.BlockKinds.{SCALE};
-ghost use Rattle.spectrum.specs.Levels.{cell, level, levels, line, permuted};
-ghost use Rattle.spectrum.specs.Spectrum.{backward, forward, quotient, tableCosine, tableSine};
+ghost use Rattle.refusal.specs.BlockKinds.{SCALE, SCALE-DIGITS};
+ghost use Rattle.spectrum.specs.Levels.{cell, permuted, reversed};
+ghost use Rattle.spectrum.specs.Spectrum.{tableCosine, tableSine, levelAt, levelsAt, forward, backward};
 ghost use Rattle.spectrum.specs.Distance.{WithinE};
+ghost use Rattle.spectrum.specs.Limits.{LARGEST-CELL, LARGEST-SUM};
 ghost use Rattle.hartley.specs.Calls.{answer, testedSpectrum, leaves, notLoud, testedSamples, tested};
-ghost use Rattle.hartley.specs.Workers.{Joins, nextReversed, Ready, Runs, turned, NoneAbove};
+ghost use Rattle.hartley.specs.Workers.{joinedHalves, Joins, NoneAbove, Pair, Ready, Runs, turned};
 ghost use Rattle.hartley.specs.declared.Answer.the-variants.{Done};
 
 // A sample lies between these two (16 bits).
@@ -35,7 +35,7 @@ pub enum Answer {
 pub fn forward(cells: &mut [i64]) -> Answer
     ensures answer { λ r. ⌜ r ≡ answer (testedSamples (now (cells .entry))) ⌝ }
     ensures cells { λ _. ⌜ now (cells .exit) ≡ leaves forward (now (cells .entry)) (testedSamples (now (cells .entry))) ⌝ }
-    ensures distance { λ r. ⌜ (r ≡ Done → (P : ℕ) → length (now (cells .entry)) ≡ 2 ^ P → WithinE P (now (cells .entry)) (now (cells .exit))) ⌝ }
+    ensures distance { λ r. ⌜ (r ≡ Done → (P : ℕ) × (length (now (cells .entry)) ≡ 2 ^ P) × WithinE P (now (cells .entry)) (now (cells .exit))) ⌝ }
     ensures first_line { λ r. ⌜ (r ≡ Done → cell (now (cells .exit)) 0 ≡ sum (length (now (cells .entry))) (cell (now (cells .entry)))) ⌝ }
 {
     match tested(cells, LEAST_SAMPLE, LARGEST_SAMPLE) {
@@ -111,7 +111,7 @@ fn transform(cells: &mut [i64], p: usize)
 // The table's cosines and sines for a block of len cells: len / 2 each, 1,024 / len steps apart. The constant table is read here alone.
 fn fill_turn(cosines: &mut [i64], sines: &mut [i64], len: usize)
     requires { ⌜ (0 < len) × (length (now cosines) ≡ len / 2) × (length (now sines) ≡ len / 2) ⌝ }
-    ensures { λ _. ⌜ (now (cosines .exit) ≡ turned tableCosine len) × (now (sines .exit) ≡ turned tableSine len) ⌝ }
+    ensures { λ _. ⌜ (now (cosines .exit) ≡ turned (tableCosine SCALE-DIGITS) len) × (now (sines .exit) ≡ turned (tableSine SCALE-DIGITS) len) ⌝ }
 {
     let quarter = cosine::quarter_table();
     let apart = BlockKind::TURN / len;
@@ -153,7 +153,7 @@ fn permute(kept: &[i64], cells: &mut [i64], p: usize)
 // From the digits of a number reversed, those of the next number: it counts up from the highest digit on.
 fn next_reversed(digits: usize, highest: usize) -> usize
     requires { ⌜ highest ≤ 512 ⌝ }
-    ensures { λ r. ⌜ ((p : ℕ) → highest ≡ 2 ^ p / 2 → r ≡ nextReversed p digits) ⌝ }
+    ensures { λ r. ⌜ ((p i : ℕ) → highest ≡ 2 ^ p / 2 → digits ≡ reversed p i → r ≡ reversed p (i + 1)) ⌝ }
 {
     let mut rest = digits;
     let mut digit = highest;
@@ -170,7 +170,7 @@ fn next_reversed(digits: usize, highest: usize) -> usize
 // Levels 1 to p. The cells before each level are kept aside, so no line is written before its mirror partner has been read.
 fn run_levels(cells: &mut [i64], kept: &mut [i64], cosines: &[i64], sines: &[i64], p: usize)
     requires { ⌜ Runs p (now cells) (now kept) (now cosines) (now sines) ⌝ }
-    ensures { λ _. ⌜ now (cells .exit) ≡ levels quotient tableCosine tableSine p (now (cells .entry)) ⌝ }
+    ensures { λ _. ⌜ now (cells .exit) ≡ levelsAt SCALE-DIGITS p (now (cells .entry)) ⌝ }
 {
     let mut n = 1;
     let mut stride = cosines.len();
@@ -193,8 +193,8 @@ fn join_level(
     n: usize,
     stride: usize,
 )
-    requires { ⌜ Joins n stride (now cosines) (now sines) × NoneAbove (2 ^ 40) (now kept) × (length (now kept) % (2 * n) ≡ 0) × (length (now cells) ≡ length (now kept)) ⌝ }
-    ensures { λ _. ⌜ now (cells .exit) ≡ level quotient tableCosine tableSine n (now (kept .entry)) ⌝ }
+    requires { ⌜ Joins n stride (now cosines) (now sines) × NoneAbove (LARGEST-CELL) (now kept) × (length (now kept) % (2 * n) ≡ 0) × (length (now cells) ≡ length (now kept)) ⌝ }
+    ensures { λ _. ⌜ now (cells .exit) ≡ levelAt SCALE-DIGITS n (now (kept .entry)) ⌝ }
 {
     let mut base = 0;
     while base < kept.len() {
@@ -215,8 +215,8 @@ fn join_level(
 // The lines of the joined halves a and b. Lines v and n + v have the same operands; half a turn on, cosine and sine change their
 // signs. The mirror of line 0 is line 0, that of line v is line n - v. Line v takes entry v × stride of the cosines and sines.
 fn join(a: &[i64], b: &[i64], cells: &mut [i64], cosines: &[i64], sines: &[i64], stride: usize)
-    requires { ⌜ Joins (length (now a)) stride (now cosines) (now sines) × NoneAbove (2 ^ 40) (now a) × NoneAbove (2 ^ 40) (now b) × (length (now b) ≡ length (now a)) × (length (now cells) ≡ 2 * length (now a)) ⌝ }
-    ensures { λ _. ⌜ now (cells .exit) ≡ tabulate (2 * length (now (a .entry))) (line quotient tableCosine tableSine (length (now (a .entry))) (cell (now (a .entry))) (cell (now (b .entry)))) ⌝ }
+    requires { ⌜ Joins (length (now a)) stride (now cosines) (now sines) × Pair (now a) (now b) (now cells) ⌝ }
+    ensures { λ _. ⌜ now (cells .exit) ≡ joinedHalves SCALE-DIGITS (now (a .entry)) (now (b .entry)) ⌝ }
 {
     let n = a.len();
     let mut v = 0;
@@ -234,16 +234,16 @@ fn join(a: &[i64], b: &[i64], cells: &mut [i64], cosines: &[i64], sines: &[i64],
 
 // The sum of both products.
 fn sum_of_products(b: i64, mirror: i64, cosine: i64, sine: i64) -> i64
-    requires { ⌜ (natAbs b ≤ 2 ^ 40) × (natAbs mirror ≤ 2 ^ 40) × (natAbs cosine ≤ SCALE) × (natAbs sine ≤ SCALE) ⌝ }
-    ensures { λ r. ⌜ (r ≡ b *ℤ cosine +ℤ mirror *ℤ sine) × (natAbs r ≤ 2 ^ 56) ⌝ }
+    requires { ⌜ (natAbs b ≤ LARGEST-CELL) × (natAbs mirror ≤ LARGEST-CELL) × (natAbs cosine ≤ SCALE) × (natAbs sine ≤ SCALE) ⌝ }
+    ensures { λ r. ⌜ (r ≡ b *ℤ cosine +ℤ mirror *ℤ sine) × (natAbs r ≤ LARGEST-SUM) ⌝ }
 {
     b * cosine + mirror * sine
 }
 
 // A cell of the first half plus the sum of both products divided by the scale with rounding.
 fn plus_quotient(a: i64, sum: i64) -> i64
-    requires { ⌜ (natAbs a ≤ 2 ^ 40) × (natAbs sum ≤ 2 ^ 56) ⌝ }
-    ensures { λ r. ⌜ r ≡ a +ℤ quotient sum ⌝ }
+    requires { ⌜ (natAbs a ≤ LARGEST-CELL) × (natAbs sum ≤ LARGEST-SUM) ⌝ }
+    ensures { λ r. ⌜ r ≡ a +ℤ rounded SCALE sum ⌝ }
 {
     a + ints::rounded(sum, BlockKind::SCALE_DIGITS)
 }

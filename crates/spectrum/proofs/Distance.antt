@@ -1,7 +1,7 @@
 -- Step 5 of the proof of demand 3, the distance theorem, for every scale of at least 12, every rounding and table to the nearest, and every bound
 -- M of the samples up to 2^43: each line of the transform, times 2^60, is at most `bound` × 2^60 from the direct sum. By induction over the levels, of which `line-near` and `line-exact` are the step: levels 1 and 2 turn
 -- by quarters and lose nothing, and each level after them makes B into 5/2 B + n M / q + 1, rounded up.
--- Example: `distance near 32768 M-small P few xs long quiet v h`, with near : Nearest q R C S and M-small : 32768 ≤ 2 ^ 43.
+-- Example: `distance near 32768 M-small P few xs long quiet v h`, with near : Nearest q R C S and M-small : 32768 ≤ LARGEST-M.
 use mathlib.Core.Path.{_≡_, refl, sym, _∙_, ap, ap₂}
 use mathlib.Core.List.{List, [], _∷_}
 use Prim.Native.Nat.{ℕ, zero, suc, _+_, _*_, _-_, _^_, _≤_, _<_}
@@ -20,7 +20,7 @@ use Rattle.spectrum.specs.Levels.{cell, reversed, levels, transformed}
 use Rattle.spectrum.specs.Distance.{ceiling, bound, directSum}
 use Rattle.spectrum.proofs.EvenOdd.{lines, transformed-lines, even-odd}
 use Rattle.spectrum.proofs.DirectSplit.{direct, directSum-is}
-use Rattle.spectrum.proofs.Nearest.{Nearest}
+use Rattle.spectrum.proofs.Nearest.{LARGEST-M, Nearest}
 use Rattle.spectrum.proofs.OneLevel.{line-near, line-exact}
 
 -- a turn has 2^P steps of 2^(10−P)
@@ -34,7 +34,7 @@ cas-zero : cas fine 0 ≡ pos (2 ^ 60)
 unfolding cas
 cas-zero = ap₂ _+ℤ_ cosine-zero sine-zero
 
-module _ {q : ℕ} {R : ℤ → ℤ} {C S : ℕ → ℤ} (near : Nearest q R C S) (M : ℕ) (M-small : M ≤ 2 ^ 43) where
+module _ {q : ℕ} {R : ℤ → ℤ} {C S : ℕ → ℤ} (near : Nearest q R C S) (M : ℕ) (M-small : M ≤ LARGEST-M) where
   -- all lines of 2^P samples are within B. The induction carries g with 2^P g = 1,024.
   abbrev AllNear : ℕ → ℕ → Type 0
   AllNear P B = (g : ℕ) → 2 ^ P * g ≡ 1024 → (x : ℕ → ℤ) → ((t : ℕ) → natAbs (x t) ≤ M) → (v : ℕ) → v < 2 ^ P →

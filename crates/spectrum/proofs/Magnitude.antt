@@ -17,10 +17,10 @@ use Rattle.spectrum.proofs.Stages.{length-permuted, length-levels}
 use Rattle.spectrum.proofs.EvenOdd.{lines, placed, block-lines}
 use Rattle.spectrum.proofs.Step.{size-of-near, sizes}
 use Rattle.spectrum.proofs.DirectSplit.{direct, direct-size, direct-pair-size}
-use Rattle.spectrum.proofs.Nearest.{Nearest}
+use Rattle.spectrum.proofs.Nearest.{LARGEST-M, Nearest}
 use Rattle.spectrum.proofs.Distance.{whole-turn, lines-near}
 
-module _ {q : ℕ} {R : ℤ → ℤ} {C S : ℕ → ℤ} (near : Nearest q R C S) (M : ℕ) (M-small : M ≤ 2 ^ 43) where
+module _ {q : ℕ} {R : ℤ → ℤ} {C S : ℕ → ℤ} (near : Nearest q R C S) (M : ℕ) (M-small : M ≤ LARGEST-M) where
   -- ---- a line and its mirror together, and a line alone
 
   lines-pair-size : (P : ℕ) → P ≤ 10 → (x : ℕ → ℤ) → ((t : ℕ) → natAbs (x t) ≤ M) → (v : ℕ) → v < 2 ^ P →

@@ -15,6 +15,10 @@ use Rattle.cosine.specs.Cosine.{cosine, sine, fine, quarterTable}
 use Rattle.cosine.proofs.FineTurn.{quarterUnit, cosine-quarters, sine-quarters}
 use Rattle.cosine.proofs.TableNear.{cosine-near, sine-near}
 
+-- The samples that the theorem takes, in magnitude. The fine cosines are themselves rounded, at 2^60; up to this bound that stays below the theorem's + 1.
+abbrev pub LARGEST-M : ℕ
+LARGEST-M = 2 ^ 43
+
 pub record Nearest (q : ℕ) (R : ℤ → ℤ) (C S : ℕ → ℤ) : Type 0 where
   pub scale : 12 ≤ q
   pub rounding : (x : ℤ) → 2 * natAbs (pos q *ℤ R x -ℤ x) ≤ q

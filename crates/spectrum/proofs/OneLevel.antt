@@ -16,7 +16,7 @@ use Rattle.spectrum.specs.Distance.{ceiling}
 use Rattle.spectrum.proofs.Step.{step, exact}
 use Rattle.spectrum.proofs.Pairs.{whole-steps}
 use Rattle.spectrum.proofs.DirectSplit.{direct, evenSum, oddSum, Cas-near, mirror, direct-split, direct-pair-size, odd-near}
-use Rattle.spectrum.proofs.Nearest.{Nearest, exact-cosine, exact-sine, exact-quotient}
+use Rattle.spectrum.proofs.Nearest.{LARGEST-M, Nearest, exact-cosine, exact-sine, exact-quotient}
 
 zero-apart : {y w : ℤ} → y ≡ w → natAbs (y -ℤ w) ≤ 0
 zero-apart {y} {w} e = rw (e, none) (omega arith)
@@ -54,11 +54,11 @@ module _ (n g : ℕ) (z : zero < n) (e : 2 * n * g ≡ 1024) (x : ℕ → ℤ) (
       go (suc g) f = omega arith
 
   -- 2^67 a sample, for 512 samples of 2^43, is half of 2^60 · 2^60
-  small : M ≤ 2 ^ 43 → (y : ℕ) → y ≤ n * (M * 2 ^ 67) → 2 * y ≤ 2 ^ 60 * 2 ^ 60
+  small : M ≤ LARGEST-M → (y : ℕ) → y ≤ n * (M * 2 ^ 67) → 2 * y ≤ 2 ^ 60 * 2 ^ 60
   small h y k = omega (arith, le-trans k (mul-le-mul few (mul-le-mul h (le-refl (2 ^ 67)))))
 
   module _ {q : ℕ} {R : ℤ → ℤ} {C S : ℕ → ℤ} (near : Nearest q R C S) (a b : ℕ → ℤ) where
-    pub line-near : (B : ℕ) → M ≤ 2 ^ 43 →
+    pub line-near : (B : ℕ) → M ≤ LARGEST-M →
         ((w : ℕ) → w < n → natAbs (a w *ℤ pos (2 ^ 60) -ℤ evenSum n x w) ≤ B * 2 ^ 60) → ((w : ℕ) → w < n → natAbs (b w *ℤ pos (2 ^ 60) -ℤ oddSum n x w) ≤ B * 2 ^ 60) →
         natAbs (line R C S n a b v *ℤ pos (2 ^ 60) -ℤ direct (2 * n) x v) ≤ (ceiling (5 * B) 2 + ceiling (n * M) q + 1) * 2 ^ 60
     line-near B M-small ha hb = let w = v % n in let w' = mirror n v in let k = v * g in rw (whole-steps (2 * n) g v (omega arith) e)

@@ -18,7 +18,7 @@ directSum F xs v = let N = length xs in sum N (λ t. cell xs t *ℤ cas F (v * t
 abbrev pub ceiling : ℕ → ℕ → ℕ
 ceiling a b = (a + (b - 1)) / b
 
--- The distance for 2^P samples of magnitude M at most, at scale q: 0 for P up to 2; then 5/2 of the one before, rounded up, plus half the
+-- The distance for 2^P samples of magnitude M at most, at scale q (in the words of document 02, Item 6): 0 for P up to 2; then 5/2 of the one before, rounded up, plus half the
 -- length times M over q, rounded up, plus 1.
 unfoldable pub bound : ℕ → ℕ → ℕ → ℕ
 bound q M zero = 0
@@ -26,7 +26,7 @@ bound q M (suc zero) = 0
 bound q M (suc (suc zero)) = 0
 bound q M (suc (suc (suc P))) = ceiling (5 * bound q M (suc (suc P))) 2 + ceiling (2 ^ suc (suc P) * M) q + 1
 
--- E for P = 1 to 10 (and 0 for P = 0). That this is `bound` at 32,768 for q and M is `E-is-bound` in proofs/Demand3.
+-- E for P = 1 to 10 (and 0 for P = 0). That these figures are `bound` at scale 32,768 and samples up to 32,768 is `E-is-bound` in proofs/Demand3.
 abbrev pub E : ℕ → ℕ
 E P = getD (0 ∷ 0 ∷ 0 ∷ 5 ∷ 22 ∷ 72 ∷ 213 ∷ 598 ∷ 1624 ∷ 4317 ∷ 11306 ∷ []) P 0
 

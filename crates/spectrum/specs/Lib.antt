@@ -1,3 +1,4 @@
 pub mod Levels
 pub mod Spectrum
 pub mod Distance
+pub mod Limits

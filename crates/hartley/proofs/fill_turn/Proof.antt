@@ -20,7 +20,7 @@ use Rattle.hartley.proofs.fill_turn.Tie as tie
 abbrev Inv-loop : tie.InvT-loop
 Inv-loop cosines₀ sines₀ n quarter apart j₀ cosines sines j =
     (j ≤ n / 2) × (length cosines ≡ n / 2) × (length sines ≡ n / 2)
-    × Filled (pos 0) (λ k. tableCosine (k * (TURN / n))) j cosines × Filled (pos 0) (λ k. tableSine (k * (TURN / n))) j sines
+    × Filled (pos 0) (λ k. tableCosine SCALE-DIGITS (k * (TURN / n))) j cosines × Filled (pos 0) (λ k. tableSine SCALE-DIGITS (k * (TURN / n))) j sines
 
 abbrev μ-loop : tie.MeasureT-loop
 μ-loop cosines₀ sines₀ n quarter apart j₀ cosines sines j = n / 2 - j
@@ -73,10 +73,10 @@ loop-again c = let l = c .before .before .before .before .before .loop in let n 
       omega arith,
       simp length-set (l .inv .1),
       simp length-set (l .inv .2),
-      filled-next (pos 0) (λ k. tableCosine (k * (TURN / n))) (l .cosines) (l .j) _ (omega (arith, l .inv .1))
+      filled-next (pos 0) (λ k. tableCosine SCALE-DIGITS (k * (TURN / n))) (l .cosines) (l .j) _ (omega (arith, l .inv .1))
           (toZ-ofZ (sfits-of (c .before .before .cosine .ok)) ∙ c .before .before .cosine .ensures ∙ ap (λ (q : List ℕ). cosine (entries q) step) quarter ∙ cosine-listed (quarterTable SCALE-DIGITS) step)
           (l .inv .3),
-      filled-next (pos 0) (λ k. tableSine (k * (TURN / n))) (l .sines) (l .j) _ (omega (arith, l .inv .2))
+      filled-next (pos 0) (λ k. tableSine SCALE-DIGITS (k * (TURN / n))) (l .sines) (l .j) _ (omega (arith, l .inv .2))
           (toZ-ofZ (sfits-of (c .sine .ok)) ∙ c .sine .ensures ∙ ap (λ (q : List ℕ). sine (entries q) step) quarter ∙ sine-listed (quarterTable SCALE-DIGITS) step)
           (l .inv .4),
     )

@@ -1,6 +1,6 @@
 -- `forward` is right because `tested` finds the first fault or none, and `transform` leaves the spectrum, of which demand 3 and line 0 are laws.
 use borrow.Author.Needs.{needs}
-use mathlib.Core.Path.{_≡_, sym, _∙_, ap, subst}
+use mathlib.Core.Path.{_≡_, sym, _∙_, ap}
 use mathlib.Core.List.{List}
 use Prim.Native.Nat.{ℕ, _^_}
 use native.Mathlib.Omega.{arith}
@@ -8,13 +8,13 @@ use lib.IntN.{ℤ}
 use lib.ListN.{length}
 use denote.Ref.{now}
 use Rattle.ints.specs.Sum.{sum}
-use Rattle.ints.proofs.Powers.{two-pow-same}
 use Rattle.refusal.specs.declared.BlockKind.{BlockKind}
 use Rattle.refusal.specs.declared.KindAnswer.the-variants.{Taken}
 use Rattle.refusal.specs.declared.Refusal.{Refusal}
 use Rattle.spectrum.specs.Levels.{cell}
 use Rattle.spectrum.specs.Spectrum.{forward}
 use Rattle.spectrum.specs.Distance.{WithinE}
+use Rattle.spectrum.specs.Limits.{LOUDEST-SAMPLE}
 use Rattle.spectrum.proofs.Demand3.{demand-3, forward-first}
 use Rattle.hartley.specs.Calls.{answer, leaves, testedSamples}
 use Rattle.hartley.specs.declared.Answer.{Answer}
@@ -28,10 +28,9 @@ refused-not-done refusal e = let z : _≡_ {A = ℕ} 0 1 = cc in absurd (omega a
 
 -- what holds of the spectrum of a block that is taken
 module _ (xs : List ℤ) (kind : BlockKind) (e : testedSamples xs ≡ Taken kind) where
-  near : (P : ℕ) → length xs ≡ 2 ^ P → WithinE P xs (forward (kind .p) xs)
-  near P long = let k = taken-kind _ _ xs kind e in
-      subst (λ (Q : ℕ). WithinE Q xs (forward (kind .p) xs)) (two-pow-same (kind .p) P (sym (k .cells) ∙ long))
-      (demand-3 (kind .p) (k .most) xs (k .cells) (taken-quiet 32768 32767 32768 xs kind (omega arith) (omega arith) e))
+  near : (P : ℕ) × (length xs ≡ 2 ^ P) × WithinE P xs (forward (kind .p) xs)
+  near = let k = taken-kind _ _ xs kind e in
+      (kind .p, k .cells, demand-3 (kind .p) (k .most) xs (k .cells) (taken-quiet 32768 32767 LOUDEST-SAMPLE xs kind (omega arith) (omega arith) e))
 
   first : cell (forward (kind .p) xs) 0 ≡ sum (length xs) (cell xs)
   first = forward-first (kind .p) xs ∙ ap (λ (n : ℕ). sum n (cell xs)) (sym (taken-kind _ _ xs kind e .cells))
@@ -65,7 +64,7 @@ same-length-2 c = search needs
 returns-2 : tie.Need-returns-2
 returns-2 c = let k = c .before .before .before .before in let xs = now (k .before .before .before .before .args .cells) in let kind = k .kind .given .0 .0 in
     let e = taken k in let t = c .before .transform .ensures in
-    (sym (ap answer e), (t ∙ sym (ap (leaves forward xs) e), (λ h P long. rw t (near xs kind e P long), λ h. ap (λ (ys : List ℤ). cell ys 0) t ∙ first xs kind e)))
+    (sym (ap answer e), (t ∙ sym (ap (leaves forward xs) e), (λ h. rw t (near xs kind e), λ h. ap (λ (ys : List ℤ). cell ys 0) t ∙ first xs kind e)))
 
 pub forward-spec : {M : Type 1} → statement M
 forward-spec =

@@ -16,9 +16,11 @@ use Rattle.ints.proofs.Ring.{ring, quotes}
 use Rattle.ints.proofs.Abs.{abs-minus}
 use Rattle.ints.proofs.Fit.{fits, reads-back}
 use Rattle.ints.proofs.Filling.{filled-all}
-use Rattle.refusal.specs.BlockKinds.{SCALE}
-use Rattle.spectrum.specs.Levels.{cell, line}
-use Rattle.spectrum.specs.Spectrum.{quotient, tableCosine, tableSine}
+use Rattle.refusal.specs.BlockKinds.{SCALE, SCALE-DIGITS}
+use Rattle.spectrum.specs.Levels.{cell}
+use Rattle.spectrum.specs.Spectrum.{lineAt}
+use Rattle.spectrum.specs.Limits.{LARGEST-CELL, LARGEST-SUM}
+use Rattle.ints.specs.Quotient.{rounded}
 use Rattle.hartley.specs.Workers.{Joins, NoneAbove}
 use Rattle.hartley.proofs.Halves.{Places, places, cosines-many, sines-many, cosine-small, sine-small, line-in-first-half, line-in-second-half, SecondFilled, written-first, written-second, both-halves}
 use Rattle.hartley.proofs.join.Statement.{statement}
@@ -27,7 +29,7 @@ use Rattle.hartley.proofs.join.Tie as tie
 abbrev Inv-loop : tie.InvT-loop
 Inv-loop a b cells₀ cosines sines stride n v₀ mirror₀ entry₀ cells v mirror entry =
     (v ≤ length a) × (mirror ≡ (length a - v) % length a) × (entry ≡ v * stride) × (length cells ≡ 2 * length a)
-    × Filled (pos 0) (line quotient tableCosine tableSine (length a) (cell a) (cell b)) v cells × SecondFilled (line quotient tableCosine tableSine (length a) (cell a) (cell b)) (length a) v cells
+    × Filled (pos 0) (lineAt SCALE-DIGITS (length a) (cell a) (cell b)) v cells × SecondFilled (lineAt SCALE-DIGITS (length a) (cell a) (cell b)) (length a) v cells
 
 abbrev μ-loop : tie.MeasureT-loop
 μ-loop a b cells₀ cosines sines stride n v₀ mirror₀ entry₀ cells v mirror entry = length a - v
@@ -48,13 +50,13 @@ of-second c = of-first (c .before .before)
 read-small : (z : ℤ) (b : ℕ) → b < 2 ^ 63 → natAbs z ≤ b → natAbs (toZ w64 (ofZ w64 z)) ≤ b
 read-small z b k h = rw (reads-back z b k h) h
 
-read-cell : (xs : List ℤ) (i : ℕ) → NoneAbove (2 ^ 40) xs → natAbs (toZ w64 (ofZ w64 (cell xs i))) ≤ 2 ^ 40
-read-cell xs i h = read-small (cell xs i) (2 ^ 40) (omega arith) (h .size i)
+read-cell : (xs : List ℤ) (i : ℕ) → NoneAbove (LARGEST-CELL) xs → natAbs (toZ w64 (ofZ w64 (cell xs i))) ≤ LARGEST-CELL
+read-cell xs i h = read-small (cell xs i) (LARGEST-CELL) (omega arith) (h .size i)
 
-cell-back : (xs : List ℤ) (i : ℕ) → NoneAbove (2 ^ 40) xs → toZ w64 (ofZ w64 (cell xs i)) ≡ cell xs i
-cell-back xs i h = reads-back (cell xs i) (2 ^ 40) (omega arith) (h .size i)
+cell-back : (xs : List ℤ) (i : ℕ) → NoneAbove (LARGEST-CELL) xs → toZ w64 (ofZ w64 (cell xs i)) ≡ cell xs i
+cell-back xs i h = reads-back (cell xs i) (LARGEST-CELL) (omega arith) (h .size i)
 
-minus : (z : ℤ) → natAbs z ≤ 2 ^ 56 → natAbs (pos 0 -ℤ z) ≤ 2 ^ 56
+minus : (z : ℤ) → natAbs z ≤ LARGEST-SUM → natAbs (pos 0 -ℤ z) ≤ LARGEST-SUM
 minus z h = omega (arith, abs-minus (pos 0) z)
 
 minus-is : (z : ℤ) → pos 0 -ℤ z ≡ negℤ z
@@ -68,28 +70,28 @@ here c = let l = c .before .loop in places (c .before .before .pre .0) (l .v) (l
 sum-read : (c : tie.After-sum-of-products Inv-loop μ-loop) → let i = of-sum c in let s = i .before .before .args in let l = i .before .loop in
     toZ w64 (ofZ w64 (c .sum-of-products .result)) ≡ cell (now (s .b)) (l .v) *ℤ cell (now (s .cosines)) (l .entry) +ℤ cell (now (s .b)) (l .mirror) *ℤ cell (now (s .sines)) (l .entry)
 sum-read c = let i = (of-sum c) in let s = i .before .before .args in let l = i .before .loop in let q = i .before .before .pre in let p = here i in
-    reads-back (c .sum-of-products .result) (2 ^ 56) (omega arith) (c .sum-of-products .ensures .1) ∙ c .sum-of-products .ensures .0
+    reads-back (c .sum-of-products .result) (LARGEST-SUM) (omega arith) (c .sum-of-products .ensures .1) ∙ c .sum-of-products .ensures .0
     ∙ rw (
-      cell-back (now (s .b)) (l .v) (q .2),
-      cell-back (now (s .b)) (l .mirror) (q .2),
+      cell-back (now (s .b)) (l .v) (q .1 .b-quiet),
+      cell-back (now (s .b)) (l .mirror) (q .1 .b-quiet),
       reads-back (cell (now (s .cosines)) (l .entry)) SCALE (omega arith) (cosine-small (q .0) (l .entry) (p .entry-in)),
       reads-back (cell (now (s .sines)) (l .entry)) SCALE (omega arith) (sine-small (q .0) (l .entry) (p .entry-in)),
     ) refl
 
 first-read : (c : tie.After-plus-quotient Inv-loop μ-loop) → let i = of-first c in let s = i .before .before .args in
-    toZ w64 (ofZ w64 (c .plus-quotient .result)) ≡ line quotient tableCosine tableSine (length (now (s .a))) (cell (now (s .a))) (cell (now (s .b))) (i .before .loop .v)
+    toZ w64 (ofZ w64 (c .plus-quotient .result)) ≡ lineAt SCALE-DIGITS (length (now (s .a))) (cell (now (s .a))) (cell (now (s .b))) (i .before .loop .v)
 first-read c = let i = (of-first c) in let s = i .before .before .args in let l = i .before .loop in let q = i .before .before .pre in
     toZ-ofZ (sfits-of (c .plus-quotient .ok)) ∙ c .plus-quotient .ensures
-    ∙ ap₂ (λ (a y : ℤ). a +ℤ quotient y) (cell-back (now (s .a)) (l .v) (q .1)) (sum-read (c .before .before))
+    ∙ ap₂ (λ (a y : ℤ). a +ℤ rounded SCALE y) (cell-back (now (s .a)) (l .v) (q .1 .a-quiet)) (sum-read (c .before .before))
     ∙ sym (line-in-first-half (q .0) (cell (now (s .a))) (cell (now (s .b))) (l .v) (l .mirror) (l .entry) (here i) (l .inv .1) (l .inv .2))
 
 second-read : (c : tie.After-plus-quotient2 Inv-loop μ-loop) → let i = of-second c in let s = i .before .before .args in
-    toZ w64 (ofZ w64 (c .plus-quotient2 .result)) ≡ line quotient tableCosine tableSine (length (now (s .a))) (cell (now (s .a))) (cell (now (s .b))) (length (now (s .a)) + i .before .loop .v)
+    toZ w64 (ofZ w64 (c .plus-quotient2 .result)) ≡ lineAt SCALE-DIGITS (length (now (s .a))) (cell (now (s .a))) (cell (now (s .b))) (length (now (s .a)) + i .before .loop .v)
 second-read c = let i = (of-second c) in let s = i .before .before .args in let l = i .before .loop in let q = i .before .before .pre in
     let z = c .before .before .before .before .sum-of-products in let y = toZ w64 (ofZ w64 (z .result)) in
     toZ-ofZ (sfits-of (c .plus-quotient2 .ok)) ∙ c .plus-quotient2 .ensures
-    ∙ ap₂ (λ (a y : ℤ). a +ℤ quotient y) (cell-back (now (s .a)) (l .v) (q .1))
-    (reads-back (pos 0 -ℤ y) (2 ^ 56) (omega arith) (minus y (read-small (z .result) (2 ^ 56) (omega arith) (z .ensures .1))) ∙ minus-is y ∙ ap negℤ (sum-read (c .before .before .before .before)))
+    ∙ ap₂ (λ (a y : ℤ). a +ℤ rounded SCALE y) (cell-back (now (s .a)) (l .v) (q .1 .a-quiet))
+    (reads-back (pos 0 -ℤ y) (LARGEST-SUM) (omega arith) (minus y (read-small (z .result) (LARGEST-SUM) (omega arith) (z .ensures .1))) ∙ minus-is y ∙ ap negℤ (sum-read (c .before .before .before .before)))
     ∙ sym (line-in-second-half (q .0) (cell (now (s .a))) (cell (now (s .b))) (l .v) (l .mirror) (l .entry) (here i) (l .inv .1) (l .inv .2))
 
 one-more : (v stride : ℕ) → v * stride + stride ≡ (v + 1) * stride
@@ -97,7 +99,7 @@ one-more v stride = omega arith
 
 loop-holds : tie.Need-loop-holds Inv-loop μ-loop
 loop-holds c = let n = length (now (c .args .a)) in
-    (omega arith, sym (ap (λ (x : ℕ). x % n) (sub-zero n) ∙ mod-self n), sym (zero-mul (c .args .stride)), c .pre .4, λ i h. absurd (not-suc-le-zero h), λ i h. absurd (not-suc-le-zero h))
+    (omega arith, sym (ap (λ (x : ℕ). x % n) (sub-zero n) ∙ mod-self n), sym (zero-mul (c .args .stride)), c .pre .1 .all-lines, λ i h. absurd (not-suc-le-zero h), λ i h. absurd (not-suc-le-zero h))
 
 mul-sum-of-products : tie.Need-mul-sum-of-products Inv-loop μ-loop
 mul-sum-of-products c = let p = here c in search needs
@@ -125,8 +127,8 @@ shared-slice-copy-out-sum-of-products-4 c = let p = here (c .before .before .bef
 
 sum-of-products-requires : tie.Need-sum-of-products-requires Inv-loop μ-loop
 sum-of-products-requires c κs = let i = c .before .before .before .before in let s = i .before .before .args in let l = i .before .loop in let q = i .before .before .pre in let p = here i in (
-  read-cell (now (s .b)) (l .v) (q .2),
-  read-cell (now (s .b)) (l .mirror) (q .2),
+  read-cell (now (s .b)) (l .v) (q .1 .b-quiet),
+  read-cell (now (s .b)) (l .mirror) (q .1 .b-quiet),
   read-small (cell (now (s .cosines)) (l .entry)) SCALE (omega arith) (cosine-small (q .0) (l .entry) (p .entry-in)),
   read-small (cell (now (s .sines)) (l .entry)) SCALE (omega arith) (sine-small (q .0) (l .entry) (p .entry-in)),
 )
@@ -139,7 +141,7 @@ shared-slice-copy-out-plus-quotient c = let p = here (of-sum c) in search needs
 
 plus-quotient-requires : tie.Need-plus-quotient-requires Inv-loop μ-loop
 plus-quotient-requires c κs = let s = (of-sum (c .before)) .before .before in let z = c .before .sum-of-products in
-    (read-cell (now (s .args .a)) ((of-sum (c .before)) .before .loop .v) (s .pre .1), read-small (z .result) (2 ^ 56) (omega arith) (z .ensures .1))
+    (read-cell (now (s .args .a)) ((of-sum (c .before)) .before .loop .v) (s .pre .1 .a-quiet), read-small (z .result) (LARGEST-SUM) (omega arith) (z .ensures .1))
 
 mul-t22 : tie.Need-mul-t22 Inv-loop μ-loop
 mul-t22 c = let p = here (of-first c) in search needs
@@ -156,12 +158,12 @@ shared-slice-copy-out-plus-quotient-2 c = let p = here (of-first c) in search ne
 
 sub-plus-quotient : tie.Need-sub-plus-quotient Inv-loop μ-loop
 sub-plus-quotient c = let z = c .before .before .before .sum-of-products in let y = toZ w64 (ofZ w64 (z .result)) in
-    fits (pos 0 -ℤ y) (omega (arith, minus y (read-small (z .result) (2 ^ 56) (omega arith) (z .ensures .1))))
+    fits (pos 0 -ℤ y) (omega (arith, minus y (read-small (z .result) (LARGEST-SUM) (omega arith) (z .ensures .1))))
 
 plus-quotient-requires-2 : tie.Need-plus-quotient-requires-2 Inv-loop μ-loop
 plus-quotient-requires-2 c κs = let s = (of-first (c .before)) .before .before in let z = c .before .before .before .sum-of-products in let y = toZ w64 (ofZ w64 (z .result)) in (
-  read-cell (now (s .args .a)) ((of-first (c .before)) .before .loop .v) (s .pre .1),
-  read-small (pos 0 -ℤ y) (2 ^ 56) (omega arith) (minus y (read-small (z .result) (2 ^ 56) (omega arith) (z .ensures .1))),
+  read-cell (now (s .args .a)) ((of-first (c .before)) .before .loop .v) (s .pre .1 .a-quiet),
+  read-small (pos 0 -ℤ y) (LARGEST-SUM) (omega arith) (minus y (read-small (z .result) (LARGEST-SUM) (omega arith) (z .ensures .1))),
 )
 
 add-t13 : tie.Need-add-t13 Inv-loop μ-loop
@@ -186,7 +188,7 @@ loop-less : tie.Need-loop-less Inv-loop μ-loop
 loop-less c = let p = here (of-second c) in search needs
 
 loop-again : tie.Need-loop-again Inv-loop μ-loop
-loop-again c = let i = (of-second c) in let s = i .before .before .args in let l = i .before .loop in let p = here i in let f = line quotient tableCosine tableSine (length (now (s .a))) (cell (now (s .a))) (cell (now (s .b))) in (
+loop-again c = let i = (of-second c) in let s = i .before .before .args in let l = i .before .loop in let p = here i in let f = lineAt SCALE-DIGITS (length (now (s .a))) (cell (now (s .a))) (cell (now (s .b))) in (
   omega arith,
   sym (mod-eq-of-lt (omega arith)),
   ap (λ (x : ℕ). x + s .stride) (l .inv .2) ∙ one-more (l .v) (s .stride),
@@ -196,7 +198,7 @@ loop-again c = let i = (of-second c) in let s = i .before .before .args in let l
 )
 
 same-length : tie.Need-same-length Inv-loop μ-loop
-same-length c = c .before .loop .inv .3 ∙ sym (c .before .before .pre .4)
+same-length c = c .before .loop .inv .3 ∙ sym (c .before .before .pre .1 .all-lines)
 
 returns : tie.Need-returns Inv-loop μ-loop
 returns c = let l = c .before .loop in let n = length (now (c .before .before .args .a)) in let e : l .v ≡ n = omega arith in

@@ -2,35 +2,35 @@
 use borrow.Author.Needs.{needs}
 use mathlib.Core.Path.{_≡_, sym, _∙_, ap}
 use mathlib.Core.List.{List}
-use Prim.Native.Nat.{ℕ, _+_, _*_, _-_, _/_, _%_, _≤_, _<_, _^_}
+use Prim.Native.Nat.{ℕ, _+_, _*_, _-_, _/_, _%_, _≤_, _<_}
 use native.Mathlib.Nat.{mul-le-mul-right, lt-of-mul-lt-mul-right, div-add-mod', zero-mod, add-mod-right, add-assoc, not-suc-le-zero}
 use native.Mathlib.Omega.{arith}
 use lib.IntN.{ℤ, pos, natAbs}
 use lib.ListN.{length, take, drop}
 use borrow.Rule.Slice.PartMut.{putMid, same-len-mid}
 use denote.Ref.{now}
-use Rattle.ints.specs.Tabulate.{tabulate, Filled}
+use Rattle.ints.specs.Tabulate.{Filled}
 use Rattle.ints.proofs.Tables.{getD-tabulate, length-tabulate}
 use Rattle.ints.proofs.Filling.{filled-all}
 use Rattle.ints.proofs.Parts.{part-at, length-part, part-all, filled-part}
-use Rattle.spectrum.specs.Levels.{cell, line, joined, level}
-use Rattle.spectrum.specs.Spectrum.{quotient, tableCosine, tableSine}
+use Rattle.spectrum.specs.Levels.{cell, level}
+use Rattle.spectrum.specs.Spectrum.{tableCosine, tableSine, lineAt, joinedAt}
 use Rattle.spectrum.proofs.Stages.{line-cong}
 use Rattle.spectrum.proofs.Pairs.{in-pair}
-use Rattle.hartley.specs.Workers.{Joins, NoneAbove}
+use Rattle.spectrum.specs.Limits.{LARGEST-CELL}
+use Rattle.refusal.specs.BlockKinds.{SCALE, SCALE-DIGITS}
+use Rattle.ints.specs.Quotient.{rounded}
+use Rattle.hartley.specs.Workers.{joinedHalves, Joins}
 use Rattle.hartley.proofs.join_level.Statement.{statement}
 use Rattle.hartley.proofs.join_level.Tie as tie
 
 abbrev Inv-loop : tie.InvT-loop
 Inv-loop kept cells₀ cosines sines half stride base₀ cells base =
     (base ≤ length kept) × (base % (2 * half) ≡ 0) × (length cells ≡ length kept)
-    × Filled (pos 0) (joined quotient tableCosine tableSine half (cell kept)) base cells
+    × Filled (pos 0) (joinedAt SCALE-DIGITS half (cell kept)) base cells
 
 abbrev μ-loop : tie.MeasureT-loop
 μ-loop kept cells₀ cosines sines half stride base₀ cells base = length kept - base
-
-abbrev lines : List ℤ → List ℤ → List ℤ
-lines a b = tabulate (2 * length a) (line quotient tableCosine tableSine (length a) (cell a) (cell b))
 
 cells-long : (xs : List ℤ) (base half : ℕ) → base + 2 * half ≤ length xs → length (take (base + half + half - base) (drop base xs)) ≡ 2 * half
 cells-long xs base half room = length-part (pos 0) base (base + half + half - base) xs (omega arith) ∙ two
@@ -59,14 +59,14 @@ module _ (kept : List ℤ) (base half : ℕ) (room : base + 2 * half ≤ length 
       one : base + half + half - (base + half) ≡ half
       one = omega arith
 
-  lines-long : length (lines halfA halfB) ≡ 2 * half
+  lines-long : length (joinedHalves SCALE-DIGITS halfA halfB) ≡ 2 * half
   lines-long = length-tabulate (2 * length halfA) _ ∙ ap (λ (n : ℕ). 2 * n) a-long
 
   -- their lines are the cells of the level
-  lines-joined : 0 < half → base % (2 * half) ≡ 0 → (i : ℕ) → i < 2 * half → cell (lines halfA halfB) i ≡ joined quotient tableCosine tableSine half (cell kept) (base + i)
-  lines-joined some whole i h = getD-tabulate (2 * length halfA) _ (pos 0) i (omega (arith, a-long)) ∙ ap (λ (n : ℕ). line quotient tableCosine tableSine n (cell halfA) (cell halfB) i) a-long
-      ∙ line-cong quotient tableCosine tableSine half (cell halfA) (λ j. cell kept (base / (2 * half) * (2 * half) + j)) (cell halfB) (λ j. cell kept (base / (2 * half) * (2 * half) + (half + j))) i some at-a at-b
-      ∙ sym (in-pair quotient tableCosine tableSine half some (cell kept) (base / (2 * half)) i h) ∙ ap (λ (b : ℕ). joined quotient tableCosine tableSine half (cell kept) (b + i)) start
+  lines-joined : 0 < half → base % (2 * half) ≡ 0 → (i : ℕ) → i < 2 * half → cell (joinedHalves SCALE-DIGITS halfA halfB) i ≡ joinedAt SCALE-DIGITS half (cell kept) (base + i)
+  lines-joined some whole i h = getD-tabulate (2 * length halfA) _ (pos 0) i (omega (arith, a-long)) ∙ ap (λ (n : ℕ). lineAt SCALE-DIGITS n (cell halfA) (cell halfB) i) a-long
+      ∙ line-cong (rounded SCALE) (tableCosine SCALE-DIGITS) (tableSine SCALE-DIGITS) half (cell halfA) (λ j. cell kept (base / (2 * half) * (2 * half) + j)) (cell halfB) (λ j. cell kept (base / (2 * half) * (2 * half) + (half + j))) i some at-a at-b
+      ∙ sym (in-pair (rounded SCALE) (tableCosine SCALE-DIGITS) (tableSine SCALE-DIGITS) half some (cell kept) (base / (2 * half)) i h) ∙ ap (λ (b : ℕ). joinedAt SCALE-DIGITS half (cell kept) (b + i)) start
     where
       start : base / (2 * half) * (2 * half) ≡ base
       start = omega (arith, div-add-mod' base (2 * half))
@@ -78,12 +78,12 @@ module _ (kept : List ℤ) (base half : ℕ) (room : base + 2 * half ≤ length 
       at-b j k = rw (start, sym (add-assoc base half j)) (part-at (pos 0) (base + half) (base + half + half - (base + half)) kept j (omega arith))
 
   -- and written into the cells, which were filled up to base, they fill them up to the end of the pair
-  pair-written : 0 < half → base % (2 * half) ≡ 0 → (cells ys : List ℤ) → length cells ≡ length kept → Filled (pos 0) (joined quotient tableCosine tableSine half (cell kept)) base cells →
-      ys ≡ lines halfA halfB → let after = putMid base (base + half + half - base) cells ys in
-      (length after ≡ length kept) × Filled (pos 0) (joined quotient tableCosine tableSine half (cell kept)) (base + half + half) after
+  pair-written : 0 < half → base % (2 * half) ≡ 0 → (cells ys : List ℤ) → length cells ≡ length kept → Filled (pos 0) (joinedAt SCALE-DIGITS half (cell kept)) base cells →
+      ys ≡ joinedHalves SCALE-DIGITS halfA halfB → let after = putMid base (base + half + half - base) cells ys in
+      (length after ≡ length kept) × Filled (pos 0) (joinedAt SCALE-DIGITS half (cell kept)) (base + half + half) after
   pair-written some whole cells ys many F e = (
     same-len-mid base (base + half + half - base) cells ys (long ∙ sym (cells-long cells base half (omega arith))) ∙ many,
-    λ i h. filled-part (pos 0) (joined quotient tableCosine tableSine half (cell kept)) base (2 * half) cells ys _ (omega arith) F long
+    λ i h. filled-part (pos 0) (joinedAt SCALE-DIGITS half (cell kept)) base (2 * half) cells ys _ (omega arith) F long
         (λ i k. ap (λ (zs : List ℤ). cell zs i) e ∙ lines-joined some whole i k) i (omega arith),
   )
     where
@@ -156,10 +156,12 @@ join-requires : tie.Need-join-requires Inv-loop μ-loop
 join-requires c κs = let i = c .before .before .before in let l = i .before .loop in let s = i .before .before in let xs = now (s .args .kept) in
     let n = s .args .n in let h = inside i in let e = a-long xs (l .base) n h in (
       rw e (s .pre .0),
-      record { size = part-all (pos 0) (λ z. natAbs z ≤ 2 ^ 40) (omega arith) (l .base) (l .base + n - l .base) xs (s .pre .1 .size) },
-      record { size = part-all (pos 0) (λ z. natAbs z ≤ 2 ^ 40) (omega arith) (l .base + n) (l .base + n + n - (l .base + n)) xs (s .pre .1 .size) },
-      b-long xs (l .base) n h ∙ sym e,
-      cells-long (l .cells) (l .base) n (omega (arith, l .inv .2)) ∙ ap (λ (m : ℕ). 2 * m) (sym e),
+      record {
+        a-quiet = record { size = part-all (pos 0) (λ z. natAbs z ≤ LARGEST-CELL) (omega arith) (l .base) (l .base + n - l .base) xs (s .pre .1 .size) };
+        b-quiet = record { size = part-all (pos 0) (λ z. natAbs z ≤ LARGEST-CELL) (omega arith) (l .base + n) (l .base + n + n - (l .base + n)) xs (s .pre .1 .size) };
+        b-long = b-long xs (l .base) n h ∙ sym e;
+        all-lines = cells-long (l .cells) (l .base) n (omega (arith, l .inv .2)) ∙ ap (λ (m : ℕ). 2 * m) (sym e);
+      },
     )
 
 loop-less : tie.Need-loop-less Inv-loop μ-loop

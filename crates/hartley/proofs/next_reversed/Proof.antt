@@ -4,8 +4,7 @@ use Prim.Native.Nat.{ℕ, zero, suc, _+_, _-_, _/_, _≤_, _<_, _^_}
 use native.Mathlib.Omega.{arith}
 use lib.Pow.{pow-pos}
 use Rattle.ints.proofs.Powers.{two-pow}
-use Rattle.hartley.specs.Workers.{nextReversed}
-use Rattle.hartley.proofs.Counting.{next-low, next-carry, next-none}
+use Rattle.hartley.proofs.Counting.{nextReversed, next-low, next-carry, next-none, next-reversed}
 use Rattle.hartley.proofs.next_reversed.Statement.{statement}
 use Rattle.hartley.proofs.next_reversed.Tie as tie
 
@@ -63,7 +62,7 @@ add-result : tie.Need-add-result Inv-loop μ-loop
 add-result c = omega (arith, c .before .before .loop .inv .0)
 
 returns : tie.Need-returns Inv-loop μ-loop
-returns c = let l = c .before .before .loop in λ p e. ends p _ _ _ (l .inv .1 p e) (omega arith) (omega arith)
+returns c = let l = c .before .before .loop in λ p i e d. ends p _ _ _ (l .inv .1 p e) (omega arith) (omega arith) ∙ ap (nextReversed p) d ∙ next-reversed p i
 
 loop-less : tie.Need-loop-less Inv-loop μ-loop
 loop-less c = omega arith
@@ -72,7 +71,7 @@ loop-again : tie.Need-loop-again Inv-loop μ-loop
 loop-again c = let l = c .before .before .loop in (omega (arith, l .inv .0), λ p e. goes-on p _ _ _ (l .inv .1 p e) (omega arith) (omega arith))
 
 returns-2 : tie.Need-returns-2 Inv-loop μ-loop
-returns-2 c = let l = c .before .loop in λ p e. all-carried p _ _ _ (l .inv .1 p e) (omega arith)
+returns-2 c = let l = c .before .loop in λ p i e d. all-carried p _ _ _ (l .inv .1 p e) (omega arith) ∙ ap (nextReversed p) d ∙ next-reversed p i
 
 pub next-reversed-spec : {M : Type 1} → statement M
 next-reversed-spec =

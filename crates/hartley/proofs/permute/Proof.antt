@@ -13,8 +13,6 @@ use Rattle.ints.specs.Tabulate.{Filled}
 use Rattle.ints.proofs.Filling.{filled-next, filled-all}
 use Rattle.spectrum.specs.Levels.{cell, reversed, permuted}
 use Rattle.spectrum.proofs.Reversal.{reversed-zero, reversed-lt}
-use Rattle.hartley.specs.Workers.{nextReversed}
-use Rattle.hartley.proofs.Counting.{next-reversed}
 use Rattle.hartley.proofs.permute.Statement.{statement}
 use Rattle.hartley.proofs.permute.Tie as tie
 
@@ -60,7 +58,7 @@ loop-again : tie.Need-loop-again Inv-loop μ-loop
 loop-again c = let l = c .before .before .before .loop in let s = c .before .before .before .before in let p = s .args .p in (
   omega arith,
   simp length-set (l .inv .1),
-  c .next-reversed .ensures p (ap (λ (x : ℕ). x / 2) (s .pre .1)) ∙ ap (nextReversed p) (l .inv .2) ∙ next-reversed p (l .i),
+  c .next-reversed .ensures p (l .i) (ap (λ (x : ℕ). x / 2) (s .pre .1)) (l .inv .2),
   filled-next (pos 0) (λ k. cell (now (s .args .kept)) (reversed p k)) (l .cells) (l .i) _ (omega (arith, l .inv .1))
       (toZ-ofZ (sfits-of (c .before .cells .given)) ∙ ap (cell (now (s .args .kept))) (l .inv .2)) (l .inv .3),
 )

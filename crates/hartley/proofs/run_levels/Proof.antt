@@ -12,19 +12,21 @@ use denote.Ref.{now}
 use Rattle.ints.specs.Tabulate.{tabulate}
 use Rattle.ints.proofs.Tables.{length-tabulate}
 use Rattle.ints.proofs.Powers.{two-pow}
-use Rattle.refusal.specs.BlockKinds.{TURN}
+use Rattle.refusal.specs.BlockKinds.{SCALE, SCALE-DIGITS, TURN}
 use Rattle.spectrum.specs.Levels.{level, levels}
-use Rattle.spectrum.specs.Spectrum.{quotient, tableCosine, tableSine}
+use Rattle.spectrum.specs.Spectrum.{tableCosine, tableSine, levelAt, levelsAt}
 use Rattle.spectrum.proofs.Pairs.{whole-steps}
 use Rattle.spectrum.proofs.Stages.{length-levels}
 use Rattle.spectrum.proofs.Distance.{whole-turn}
-use Rattle.hartley.specs.Workers.{turned, Joins, Runs, NoneAbove}
+use Rattle.spectrum.specs.Limits.{LARGEST-CELL}
+use Rattle.ints.specs.Quotient.{rounded}
+use Rattle.hartley.specs.Workers.{turned, Joins, NoneAbove}
 use Rattle.hartley.proofs.run_levels.Statement.{statement}
 use Rattle.hartley.proofs.run_levels.Tie as tie
 
 abbrev Inv-loop : tie.InvT-loop
 Inv-loop cells₀ kept₀ cosines sines p half₀ stride₀ level₀ cells kept half stride level =
-    (level ≤ p) × (half ≡ 2 ^ level) × (stride ≡ 2 ^ (p - level) / 2) × (cells ≡ levels quotient tableCosine tableSine level cells₀) × (length kept ≡ 2 ^ p)
+    (level ≤ p) × (half ≡ 2 ^ level) × (stride ≡ 2 ^ (p - level) / 2) × (cells ≡ levelsAt SCALE-DIGITS level cells₀) × (length kept ≡ 2 ^ p)
 
 abbrev μ-loop : tie.MeasureT-loop
 μ-loop cells₀ kept₀ cosines sines p half₀ stride₀ level₀ cells kept half stride level = p - level
@@ -48,13 +50,13 @@ turn-in-steps : (p : ℕ) → p ≤ 10 → 2 ^ p * (TURN / 2 ^ p) ≡ TURN
 turn-in-steps p few = ap (λ (x : ℕ). 2 ^ p * x) (ap (λ (x : ℕ). x / 2 ^ p) (sym (one-mul TURN)) ∙ whole-steps (2 ^ p) (2 ^ (10 - p)) 1 (pow-pos p) (whole-turn p few) ∙ one-mul (2 ^ (10 - p))) ∙ whole-turn p few
 
 joins : (p level : ℕ) → p ≤ 10 → level < p → (half stride : ℕ) (cosines sines : List ℤ) → half ≡ 2 ^ level → stride ≡ 2 ^ (p - level) / 2 →
-    cosines ≡ turned tableCosine (2 ^ p) → sines ≡ turned tableSine (2 ^ p) → Joins half stride cosines sines
+    cosines ≡ turned (tableCosine SCALE-DIGITS) (2 ^ p) → sines ≡ turned (tableSine SCALE-DIGITS) (2 ^ p) → Joins half stride cosines sines
 joins p level few h half stride cosines sines eh es hc hs = record {
   some = rw eh (pow-pos level);
   apart = TURN / 2 ^ p;
   turn = whole (TURN / 2 ^ p) (turn-in-steps p few);
-  at-cosines = hc ∙ ap (λ (n : ℕ). tabulate n (λ j. tableCosine (j * (TURN / 2 ^ p)))) (sym count);
-  at-sines = hs ∙ ap (λ (n : ℕ). tabulate n (λ j. tableSine (j * (TURN / 2 ^ p)))) (sym count);
+  at-cosines = hc ∙ ap (λ (n : ℕ). tabulate n (λ j. tableCosine SCALE-DIGITS (j * (TURN / 2 ^ p)))) (sym count);
+  at-sines = hs ∙ ap (λ (n : ℕ). tabulate n (λ j. tableSine SCALE-DIGITS (j * (TURN / 2 ^ p)))) (sym count);
 }
   where
     cells : 2 ^ p ≡ 2 * (half * stride)
@@ -69,12 +71,12 @@ joins p level few h half stride cosines sines eh es hc hs = record {
 whole-pairs : (p level half : ℕ) → level < p → half ≡ 2 ^ level → 2 ^ p % (2 * half) ≡ 0
 whole-pairs p level half h e = rw (e, all-cells p level h) (mul-mod-left (2 ^ (p - suc level)) (2 * 2 ^ level))
 
-as-many : (L : ℕ) (xs : List ℤ) → length (levels quotient tableCosine tableSine L xs) ≡ length xs
-as-many = length-levels quotient tableCosine tableSine
+as-many : (L : ℕ) (xs : List ℤ) → length (levelsAt SCALE-DIGITS L xs) ≡ length xs
+as-many = length-levels (rounded SCALE) (tableCosine SCALE-DIGITS) (tableSine SCALE-DIGITS)
 
-next-level : (L half : ℕ) (xs kept ys : List ℤ) → ys ≡ level quotient tableCosine tableSine half kept → half ≡ 2 ^ L → kept ≡ levels quotient tableCosine tableSine L xs → ys ≡ levels quotient tableCosine tableSine (L + 1) xs
+next-level : (L half : ℕ) (xs kept ys : List ℤ) → ys ≡ levelAt SCALE-DIGITS half kept → half ≡ 2 ^ L → kept ≡ levelsAt SCALE-DIGITS L xs → ys ≡ levelsAt SCALE-DIGITS (L + 1) xs
 unfolding levels
-next-level L half xs kept ys e f g = rw (add-one L) (e ∙ ap₂ (level quotient tableCosine tableSine) f g)
+next-level L half xs kept ys e f g = rw (add-one L) (e ∙ ap₂ (levelAt SCALE-DIGITS) f g)
 
 -- ---- the round to which a point of the loop's body belongs: once the cells are copied, and at its end
 
@@ -95,7 +97,7 @@ join-level-requires : tie.Need-join-level-requires Inv-loop μ-loop
 join-level-requires c κs = let l = (copied c) .before .loop in let s = (copied c) .before .before in let p = s .args .p in let e = c .before .before .before .copy .ensures in
     let long = ap length (l .inv .3) ∙ as-many _ _ ∙ s .pre .long in (
       joins p (l .level) (s .pre .most) (omega arith) (l .n) (l .stride) _ _ (l .inv .1) (l .inv .2) (s .pre .at-cosines) (s .pre .at-sines),
-      subst (NoneAbove (2 ^ 40)) (sym (e ∙ l .inv .3)) (s .pre .quiet (l .level) (omega arith)),
+      subst (NoneAbove (LARGEST-CELL)) (sym (e ∙ l .inv .3)) (s .pre .quiet (l .level) (omega arith)),
       rw (ap length e ∙ long) (whole-pairs p (l .level) (l .n) (omega arith) (l .inv .1)),
       sym (ap length e),
     )
@@ -127,7 +129,7 @@ same-length-2 c = c .before .loop .inv .4 ∙ sym (c .before .before .pre .as-lo
 
 returns : tie.Need-returns Inv-loop μ-loop
 returns c = let l = c .before .loop in let s = c .before .before in let e : l .level ≡ s .args .p = omega (arith, l .inv .0) in
-    l .inv .3 ∙ ap (λ (k : ℕ). levels quotient tableCosine tableSine k (now (s .args .cells))) e
+    l .inv .3 ∙ ap (λ (k : ℕ). levelsAt SCALE-DIGITS k (now (s .args .cells))) e
 
 pub run-levels-spec : {M : Type 1} → statement M
 run-levels-spec =

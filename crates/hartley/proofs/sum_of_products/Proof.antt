@@ -12,20 +12,21 @@ use Rattle.ints.proofs.Ring.{quotes, ring}
 use Rattle.ints.proofs.Abs.{abs-plus, abs-times}
 use Rattle.ints.proofs.Fit.{fits}
 use Rattle.refusal.specs.BlockKinds.{SCALE}
+use Rattle.spectrum.specs.Limits.{LARGEST-CELL, LARGEST-SUM}
 use Rattle.hartley.proofs.sum_of_products.Statement.{statement}
 use Rattle.hartley.proofs.sum_of_products.Tie as tie
 
 -- a cell and a cosine or sine
-product-size : (x y : ℤ) → natAbs x ≤ 2 ^ 40 → natAbs y ≤ SCALE → natAbs (x *ℤ y) ≤ 2 ^ 55
+product-size : (x y : ℤ) → natAbs x ≤ LARGEST-CELL → natAbs y ≤ SCALE → natAbs (x *ℤ y) ≤ 2 ^ 55
 product-size x y h k = omega (arith, abs-times x y, mul-le-mul h k)
 
-product-fits : (x y : ℤ) → natAbs x ≤ 2 ^ 40 → natAbs y ≤ SCALE → SFits w64 (x *ℤ y)
+product-fits : (x y : ℤ) → natAbs x ≤ LARGEST-CELL → natAbs y ≤ SCALE → SFits w64 (x *ℤ y)
 product-fits x y h k = fits (x *ℤ y) (omega (arith, product-size x y h k))
 
-sum-size : (x y u v : ℤ) → natAbs x ≤ 2 ^ 40 → natAbs y ≤ SCALE → natAbs u ≤ 2 ^ 40 → natAbs v ≤ SCALE → natAbs (x *ℤ y +ℤ u *ℤ v) ≤ 2 ^ 56
+sum-size : (x y u v : ℤ) → natAbs x ≤ LARGEST-CELL → natAbs y ≤ SCALE → natAbs u ≤ LARGEST-CELL → natAbs v ≤ SCALE → natAbs (x *ℤ y +ℤ u *ℤ v) ≤ LARGEST-SUM
 sum-size x y u v hx hy hu hv = omega (arith, abs-plus (x *ℤ y) (u *ℤ v), product-size x y hx hy, product-size u v hu hv)
 
-sum-fits : (x y u v : ℤ) → natAbs x ≤ 2 ^ 40 → natAbs y ≤ SCALE → natAbs u ≤ 2 ^ 40 → natAbs v ≤ SCALE → SFits w64 (x *ℤ y +ℤ u *ℤ v)
+sum-fits : (x y u v : ℤ) → natAbs x ≤ LARGEST-CELL → natAbs y ≤ SCALE → natAbs u ≤ LARGEST-CELL → natAbs v ≤ SCALE → SFits w64 (x *ℤ y +ℤ u *ℤ v)
 sum-fits x y u v hx hy hu hv = fits (x *ℤ y +ℤ u *ℤ v) (omega (arith, sum-size x y u v hx hy hu hv))
 
 mul-result : tie.Need-mul-result
@@ -39,8 +40,8 @@ add-result c = search (needs, product-fits, sum-fits)
 
 returns : tie.Need-returns
 returns c = let a = c .args in let f = c .fits in
-    let hb : natAbs (a .b) ≤ 2 ^ 40 = c .pre .0 in
-    let hm : natAbs (a .mirror) ≤ 2 ^ 40 = c .pre .1 in
+    let hb : natAbs (a .b) ≤ LARGEST-CELL = c .pre .0 in
+    let hm : natAbs (a .mirror) ≤ LARGEST-CELL = c .pre .1 in
     let hc : natAbs (a .cosine) ≤ SCALE = c .pre .2 in
     let hs : natAbs (a .sine) ≤ SCALE = c .pre .3 in
     simp (toZ-ofZ (f .b), toZ-ofZ (f .mirror), toZ-ofZ (f .cosine), toZ-ofZ (f .sine), toZ-ofZ, product-fits, sum-fits)

@@ -10,11 +10,12 @@ use lib.Pow.{pow-pos, pow-mono}
 use lib.Seq.{take-at, length-take-le}
 use denote.Ref.{now}
 use Rattle.ints.proofs.Tables.{length-tabulate}
-use Rattle.spectrum.specs.Levels.{permuted, levels, transformed}
-use Rattle.spectrum.specs.Spectrum.{forward, forwardAt, quotient, tableCosine, tableSine}
+use Rattle.spectrum.specs.Levels.{permuted, transformed}
+use Rattle.spectrum.specs.Spectrum.{tableCosine, tableSine, levelsAt, forwardAt, forward}
 use Rattle.spectrum.proofs.Stages.{length-permuted}
 use Rattle.spectrum.proofs.Demand3.{forward-room}
-use Rattle.hartley.specs.Workers.{Ready, Runs, turned, NoneAbove}
+use Rattle.refusal.specs.BlockKinds.{SCALE-DIGITS}
+use Rattle.hartley.specs.Workers.{Ready, turned}
 use Rattle.hartley.proofs.transform.Statement.{statement}
 use Rattle.hartley.proofs.transform.Tie as tie
 
@@ -94,16 +95,16 @@ slice-aggregate-run-levels : tie.Need-slice-aggregate-run-levels
 slice-aggregate-run-levels c = sym (ap length (front _ _ _ refl (kept-at (c .before .before .before) .copy .ensures)))
 
 array-share-prefix-cosines : tie.Need-array-share-prefix-cosines
-array-share-prefix-cosines c = front-fits _ _ _ (turned-many tableCosine _) (filled-at (kept-at (c .before .before .before)) .fill-turn .ensures .0)
+array-share-prefix-cosines c = front-fits _ _ _ (turned-many (tableCosine SCALE-DIGITS) _) (filled-at (kept-at (c .before .before .before)) .fill-turn .ensures .0)
 
 slice-aggregate-run-levels-2 : tie.Need-slice-aggregate-run-levels-2
-slice-aggregate-run-levels-2 c = sym (ap length (front _ _ _ (turned-many tableCosine _) (filled-at (kept-at (c .before .before .before .before)) .fill-turn .ensures .0)) ∙ turned-many tableCosine _)
+slice-aggregate-run-levels-2 c = sym (ap length (front _ _ _ (turned-many (tableCosine SCALE-DIGITS) _) (filled-at (kept-at (c .before .before .before .before)) .fill-turn .ensures .0)) ∙ turned-many (tableCosine SCALE-DIGITS) _)
 
 array-share-prefix-sines : tie.Need-array-share-prefix-sines
-array-share-prefix-sines c = front-fits _ _ _ (turned-many tableSine _) (filled-at (kept-at (c .before .before .before .before)) .fill-turn .ensures .1)
+array-share-prefix-sines c = front-fits _ _ _ (turned-many (tableSine SCALE-DIGITS) _) (filled-at (kept-at (c .before .before .before .before)) .fill-turn .ensures .1)
 
 slice-aggregate-run-levels-3 : tie.Need-slice-aggregate-run-levels-3
-slice-aggregate-run-levels-3 c = sym (ap length (front _ _ _ (turned-many tableSine _) (filled-at (kept-at (permuted-at c)) .fill-turn .ensures .1)) ∙ turned-many tableSine _)
+slice-aggregate-run-levels-3 c = sym (ap length (front _ _ _ (turned-many (tableSine SCALE-DIGITS) _) (filled-at (kept-at (permuted-at c)) .fill-turn .ensures .1)) ∙ turned-many (tableSine SCALE-DIGITS) _)
 
 run-levels-requires : tie.Need-run-levels-requires
 run-levels-requires c κs = let k = kept-at (permuted-at c) in let f = filled-at k in let s = start-at f in let xs = now (s .args .cells) in let p = s .args .p in
@@ -112,8 +113,8 @@ run-levels-requires c κs = let k = kept-at (permuted-at c) in let f = filled-at
       most = s .pre .most;
       long = ap length cells ∙ length-permuted p xs;
       as-long = ap length kept ∙ s .pre .long;
-      at-cosines = front _ _ _ (turned-many tableCosine _) (f .fill-turn .ensures .0) ∙ ap (turned tableCosine) (s .pre .long);
-      at-sines = front _ _ _ (turned-many tableSine _) (f .fill-turn .ensures .1) ∙ ap (turned tableSine) (s .pre .long);
+      at-cosines = front _ _ _ (turned-many (tableCosine SCALE-DIGITS) _) (f .fill-turn .ensures .0) ∙ ap (turned (tableCosine SCALE-DIGITS)) (s .pre .long);
+      at-sines = front _ _ _ (turned-many (tableSine SCALE-DIGITS) _) (f .fill-turn .ensures .1) ∙ ap (turned (tableSine SCALE-DIGITS)) (s .pre .long);
       quiet = λ L h. record { size = λ i. rw cells (forward-room L p h (s .pre .most) xs (s .pre .quiet .size) i) };
     }
 
@@ -123,7 +124,7 @@ same-length c = search needs
 returns : tie.Need-returns
 unfolding forward forwardAt transformed
 returns c = let r = c .before .before in let m = permuted-at (r .before) in let k = kept-at m in let s = start-at (filled-at k) in let p = s .args .p in
-    r .run-levels .ensures ∙ ap (levels quotient tableCosine tableSine p) (m .permute .ensures ∙ ap (permuted p) (front (length (now (s .args .cells))) _ _ refl (k .copy .ensures)))
+    r .run-levels .ensures ∙ ap (levelsAt SCALE-DIGITS p) (m .permute .ensures ∙ ap (permuted p) (front (length (now (s .args .cells))) _ _ refl (k .copy .ensures)))
 
 pub transform-spec : {M : Type 1} → statement M
 transform-spec =
