@@ -11,9 +11,8 @@ use lib.Dec.{T, ltb, ltb→lt, nltb→le}
 use lib.IntN.{ℤ, pos, negℤ, natAbs, _+ℤ_, _*ℤ_}
 use lib.ListN.{length, getD, set, length-set}
 use lib.Seq.{getD-set-same, getD-set-other}
-use Rattle.ints.specs.Tabulate.{Filled}
 use Rattle.ints.proofs.Tables.{getD-tabulate, length-tabulate}
-use Rattle.ints.proofs.Filling.{filled-next, filled-still}
+use Rattle.ints.proofs.Filling.{Filled, filled-next, filled-still}
 use Rattle.refusal.specs.BlockKinds.{SCALE, SCALE-DIGITS}
 use Rattle.cosine.specs.Cosine.{quarterTable}
 use Rattle.cosine.proofs.Turn.{cosine-half, sine-half}

@@ -20,17 +20,17 @@ pub record Ready (P : ℕ) (xs : List ℤ) : Type 0 where
   pub long : length xs ≡ 2 ^ P
   pub quiet : NoneAbove (LOUDEST-LINE) xs
 
--- the table's cosines, or sines, that a block of N cells needs: N/2 of them, 1,024 / N steps apart
-abbrev pub turned : (ℕ → ℤ) → ℕ → List ℤ
-turned trig N = tabulate (N / 2) (λ j. trig (j * (TURN / N)))
+-- a cosine, or a sine, over half a turn as a block of N cells needs it: N/2 values, 1,024 / N steps apart
+abbrev pub overHalfTurn : (ℕ → ℤ) → ℕ → List ℤ
+overHalfTurn trig N = tabulate (N / 2) (λ j. trig (j * (TURN / N)))
 
 -- the levels of 2^P cells can run: there is a list as long to keep the cells in, and before no level is a cell too large
 pub record Runs (P : ℕ) (cells kept cosines sines : List ℤ) : Type 0 where
   pub most : P ≤ 10
   pub long : length cells ≡ 2 ^ P
   pub as-long : length kept ≡ 2 ^ P
-  pub at-cosines : cosines ≡ turned (tableCosine SCALE-DIGITS) (2 ^ P)
-  pub at-sines : sines ≡ turned (tableSine SCALE-DIGITS) (2 ^ P)
+  pub at-cosines : cosines ≡ overHalfTurn (tableCosine SCALE-DIGITS) (2 ^ P)
+  pub at-sines : sines ≡ overHalfTurn (tableSine SCALE-DIGITS) (2 ^ P)
   pub quiet : (L : ℕ) → L < P → NoneAbove (LARGEST-CELL) (levelsAt SCALE-DIGITS L cells)
 
 -- halves of n cells can be joined: line v takes entry v × stride of the two lists, whose neighbours are `apart` steps of the turn apart

@@ -15,7 +15,7 @@ ghost use Rattle.spectrum.specs.Spectrum.{tableCosine, tableSine, levelAt, leve
 ghost use Rattle.spectrum.specs.Distance.{WithinE};
 ghost use Rattle.spectrum.specs.Limits.{LARGEST-CELL, LARGEST-SUM};
 ghost use Rattle.hartley.specs.Calls.{answer, testedSpectrum, leaves, notLoud, testedSamples, tested};
-ghost use Rattle.hartley.specs.Workers.{joinedHalves, Joins, NoneAbove, Pair, Ready, Runs, turned};
+ghost use Rattle.hartley.specs.Workers.{joinedHalves, Joins, NoneAbove, Pair, Ready, Runs, overHalfTurn};
 ghost use Rattle.hartley.specs.declared.Answer.the-variants.{Done};
 
 // A sample lies between these two (16 bits).
@@ -95,7 +95,7 @@ fn transform(cells: &mut [i64], p: usize)
     let len = cells.len();
     let mut cosines = [0i64; BlockKind::LARGEST / 2];
     let mut sines = [0i64; BlockKind::LARGEST / 2];
-    fill_turn(&mut cosines[..len / 2], &mut sines[..len / 2], len);
+    fill_half_turn(&mut cosines[..len / 2], &mut sines[..len / 2], len);
     let mut kept = [0i64; BlockKind::LARGEST];
     copy(cells, &mut kept[..len]);
     permute(&kept[..len], cells, p);
@@ -109,9 +109,9 @@ fn transform(cells: &mut [i64], p: usize)
 }
 
 // The table's cosines and sines for a block of len cells: len / 2 each, 1,024 / len steps apart. The constant table is read here alone.
-fn fill_turn(cosines: &mut [i64], sines: &mut [i64], len: usize)
+fn fill_half_turn(cosines: &mut [i64], sines: &mut [i64], len: usize)
     requires { ⌜ (0 < len) × (length (now cosines) ≡ len / 2) × (length (now sines) ≡ len / 2) ⌝ }
-    ensures { λ _. ⌜ (now (cosines .exit) ≡ turned (tableCosine SCALE-DIGITS) len) × (now (sines .exit) ≡ turned (tableSine SCALE-DIGITS) len) ⌝ }
+    ensures { λ _. ⌜ (now (cosines .exit) ≡ overHalfTurn (tableCosine SCALE-DIGITS) len) × (now (sines .exit) ≡ overHalfTurn (tableSine SCALE-DIGITS) len) ⌝ }
 {
     let quarter = cosine::quarter_table();
     let apart = BlockKind::TURN / len;

@@ -2,14 +2,18 @@
 -- Example: `filled-next d f xs n x h e F : Filled d f (n + 1) (set xs n x)`, with h : n < length xs, e : x ≡ f n and F : Filled d f n xs.
 use mathlib.Core.Path.{_≡_, sym, _∙_, subst}
 use mathlib.Core.List.{List}
-use Prim.Native.Nat.{ℕ, _+_, _<_}
+use Prim.Native.Nat.{ℕ, _+_, _≤_, _<_}
 use native.Mathlib.Nat.{lt-irrefl}
 use native.Mathlib.Omega.{arith}
 use borrow.Author.Count.{below-more}
 use lib.ListN.{length, getD, set}
 use lib.Seq.{getD-set-same, getD-set-other, ext-getD}
-use Rattle.ints.specs.Tabulate.{tabulate, Filled}
+use Rattle.ints.specs.Tabulate.{tabulate}
 use Rattle.ints.proofs.Tables.{getD-tabulate, length-tabulate}
+
+-- the first n entries of xs are f's first values; d is what `getD` gives beyond the end
+abbrev pub Filled : {A : Type 0} → A → (ℕ → A) → ℕ → List A → Type 0
+Filled d f n xs = (i : ℕ) → i < n → getD xs i d ≡ f i
 
 module _ {A : Type 0} (d : A) (f : ℕ → A) where
   -- entries other than the one that is set
@@ -20,7 +24,7 @@ module _ {A : Type 0} (d : A) (f : ℕ → A) where
   filled-next xs n x h e F = below-more (λ i. getD (set xs n x) i d ≡ f i) n (λ i k. other xs n x i k ∙ F i k) (getD-set-same xs n x d h ∙ e)
 
   -- an entry further on does not matter
-  pub filled-still : (xs : List A) (n k : ℕ) (x : A) → n < k + 1 → Filled d f n xs → Filled d f n (set xs k x)
+  pub filled-still : (xs : List A) (n k : ℕ) (x : A) → n ≤ k → Filled d f n xs → Filled d f n (set xs k x)
   filled-still xs n k x h F i l = other xs k x i (omega arith) ∙ F i l
 
   pub filled-all : (xs : List A) (n : ℕ) → length xs ≡ n → Filled d f n xs → xs ≡ tabulate n f

@@ -23,17 +23,17 @@ use Rattle.spectrum.proofs.Distance.{whole-turn, lines-near}
 module _ {q : ℕ} {R : ℤ → ℤ} {C S : ℕ → ℤ} (near : Nearest q R C S) (M : ℕ) (M-small : M ≤ LARGEST-M) where
   -- ---- a line and its mirror together, and a line alone
 
-  lines-pair-size : (P : ℕ) → P ≤ 10 → (x : ℕ → ℤ) → ((t : ℕ) → natAbs (x t) ≤ M) → (v : ℕ) → v < 2 ^ P →
+  lines-and-mirrors : (P : ℕ) → P ≤ 10 → (x : ℕ → ℤ) → ((t : ℕ) → natAbs (x t) ≤ M) → (v : ℕ) → v < 2 ^ P →
       natAbs (lines R C S P x v) + natAbs (lines R C S P x ((2 ^ P - v) % 2 ^ P)) ≤ 2 * (2 ^ P * M) + 2 * bound q M P
-  lines-pair-size P few x quiet v h = let w = (2 ^ P - v) % 2 ^ P in
+  lines-and-mirrors P few x quiet v h = let w = (2 ^ P - v) % 2 ^ P in
       sizes (2 ^ 60) (2 ^ P * M) (bound q M P) (lines R C S P x v) (lines R C S P x w) (direct (2 ^ P) x v) (direct (2 ^ P) x w) (omega arith)
       (lines-near near M M-small P few x quiet v h) (lines-near near M M-small P few x quiet w (mod-lt (2 ^ P - v) (pow-pos P)))
       (rw (mod-eq-of-lt h) at (direct-pair-size (2 ^ P) (2 ^ (10 - P)) (pow-pos P) (whole-turn P few) x M quiet v))
 
-  pub pair-size : (P : ℕ) → P ≤ 10 → (xs : List ℤ) → ((t : ℕ) → natAbs (cell xs t) ≤ M) → (v : ℕ) → v < 2 ^ P →
+  pub line-and-mirror-size : (P : ℕ) → P ≤ 10 → (xs : List ℤ) → ((t : ℕ) → natAbs (cell xs t) ≤ M) → (v : ℕ) → v < 2 ^ P →
       natAbs (cell (transformed R C S P xs) v) + natAbs (cell (transformed R C S P xs) ((2 ^ P - v) % 2 ^ P)) ≤ 2 * (2 ^ P * M) + 2 * bound q M P
   unfolding transformed permuted
-  pair-size P few xs quiet v h = lines-pair-size P few (cell xs) quiet v h
+  line-and-mirror-size P few xs quiet v h = lines-and-mirrors P few (cell xs) quiet v h
 
   pub line-size : (P : ℕ) → P ≤ 10 → (xs : List ℤ) → ((t : ℕ) → natAbs (cell xs t) ≤ M) → (v : ℕ) → v < 2 ^ P →
       65536 * natAbs (cell (transformed R C S P xs) v) ≤ 92682 * (2 ^ P * M) + 65536 * bound q M P
@@ -68,6 +68,6 @@ module _ {q : ℕ} {R : ℤ → ℤ} {C S : ℕ → ℤ} (near : Nearest q R C S
 
       go : (c : Bool) → (T c → i < 2 ^ P) → (T (not c) → 2 ^ P ≤ i) → natAbs (cell (levels R C S L (permuted P xs)) i) ≤ 2 * (2 ^ L * M) + 2 * bound q M L
       go true f g = rw (block (f tt))
-          (omega (arith, lines-pair-size L (omega arith) y (λ t. quiet (t * 2 ^ K + reversed K (i / 2 ^ L))) (i % 2 ^ L) (mod-lt i (pow-pos L))))
+          (omega (arith, lines-and-mirrors L (omega arith) y (λ t. quiet (t * 2 ^ K + reversed K (i / 2 ^ L))) (i % 2 ^ L) (mod-lt i (pow-pos L))))
       go false f g = rw (List·getD-eq-default (levels R C S L (permuted P xs)) (pos 0) {n = i} (rw (length-levels R C S L (permuted P xs) ∙ length-permuted P xs) (g tt)))
           (omega arith)

@@ -8,8 +8,7 @@ use lib.IntN.{ℤ, pos}
 use lib.ListN.{length, set, length-set}
 use lib.Seq.{ext-getD}
 use denote.Ref.{now}
-use Rattle.ints.specs.Tabulate.{Filled}
-use Rattle.ints.proofs.Filling.{filled-next}
+use Rattle.ints.proofs.Filling.{Filled, filled-next}
 use Rattle.spectrum.specs.Levels.{cell}
 use Rattle.hartley.proofs.copy.Statement.{statement}
 use Rattle.hartley.proofs.copy.Tie as tie

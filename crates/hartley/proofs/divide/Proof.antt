@@ -13,8 +13,7 @@ use mir.Facts.{toZ-ofZ}
 use mir.Syntax.{w64}
 use mir.Val.{toZ, ofZ}
 use Rattle.ints.specs.Quotient.{rounded}
-use Rattle.ints.specs.Tabulate.{Filled}
-use Rattle.ints.proofs.Filling.{filled-next}
+use Rattle.ints.proofs.Filling.{Filled, filled-next}
 use Rattle.spectrum.specs.Levels.{cell}
 use Rattle.hartley.proofs.divide.Statement.{statement}
 use Rattle.hartley.proofs.divide.Tie as tie

@@ -11,11 +11,10 @@ use mir.Facts.{toZ-ofZ}
 use mir.Syntax.{w64}
 use mir.Val.{toZ, ofZ}
 use denote.Ref.{now}
-use Rattle.ints.specs.Tabulate.{Filled}
 use Rattle.ints.proofs.Ring.{ring, quotes}
 use Rattle.ints.proofs.Abs.{abs-minus}
 use Rattle.ints.proofs.Fit.{fits, reads-back}
-use Rattle.ints.proofs.Filling.{filled-all}
+use Rattle.ints.proofs.Filling.{Filled, filled-all}
 use Rattle.refusal.specs.BlockKinds.{SCALE, SCALE-DIGITS}
 use Rattle.spectrum.specs.Levels.{cell}
 use Rattle.spectrum.specs.Spectrum.{lineAt}

@@ -9,9 +9,8 @@ use lib.IntN.{ℤ, pos, natAbs}
 use lib.ListN.{length, take, drop}
 use borrow.Rule.Slice.PartMut.{putMid, same-len-mid}
 use denote.Ref.{now}
-use Rattle.ints.specs.Tabulate.{Filled}
 use Rattle.ints.proofs.Tables.{getD-tabulate, length-tabulate}
-use Rattle.ints.proofs.Filling.{filled-all}
+use Rattle.ints.proofs.Filling.{Filled, filled-all}
 use Rattle.ints.proofs.Parts.{part-at, length-part, part-all, filled-part}
 use Rattle.spectrum.specs.Levels.{cell, level}
 use Rattle.spectrum.specs.Spectrum.{tableCosine, tableSine, lineAt, joinedAt}
@@ -25,69 +24,69 @@ use Rattle.hartley.proofs.join_level.Statement.{statement}
 use Rattle.hartley.proofs.join_level.Tie as tie
 
 abbrev Inv-loop : tie.InvT-loop
-Inv-loop kept cells₀ cosines sines half stride base₀ cells base =
-    (base ≤ length kept) × (base % (2 * half) ≡ 0) × (length cells ≡ length kept)
-    × Filled (pos 0) (joinedAt SCALE-DIGITS half (cell kept)) base cells
+Inv-loop kept cells₀ cosines sines n stride base₀ cells base =
+    (base ≤ length kept) × (base % (2 * n) ≡ 0) × (length cells ≡ length kept)
+    × Filled (pos 0) (joinedAt SCALE-DIGITS n (cell kept)) base cells
 
 abbrev μ-loop : tie.MeasureT-loop
-μ-loop kept cells₀ cosines sines half stride base₀ cells base = length kept - base
+μ-loop kept cells₀ cosines sines n stride base₀ cells base = length kept - base
 
-cells-long : (xs : List ℤ) (base half : ℕ) → base + 2 * half ≤ length xs → length (take (base + half + half - base) (drop base xs)) ≡ 2 * half
-cells-long xs base half room = length-part (pos 0) base (base + half + half - base) xs (omega arith) ∙ two
+cells-long : (xs : List ℤ) (base n : ℕ) → base + 2 * n ≤ length xs → length (take (base + n + n - base) (drop base xs)) ≡ 2 * n
+cells-long xs base n room = length-part (pos 0) base (base + n + n - base) xs (omega arith) ∙ two
   where
-    two : base + half + half - base ≡ 2 * half
+    two : base + n + n - base ≡ 2 * n
     two = omega arith
 
 -- ---- the halves a and b of the pair that begins at base, as parts of the list
 
-module _ (kept : List ℤ) (base half : ℕ) (room : base + 2 * half ≤ length kept) where
+module _ (kept : List ℤ) (base n : ℕ) (room : base + 2 * n ≤ length kept) where
   abbrev halfA : List ℤ
-  halfA = take (base + half - base) (drop base kept)
+  halfA = take (base + n - base) (drop base kept)
 
   abbrev halfB : List ℤ
-  halfB = take (base + half + half - (base + half)) (drop (base + half) kept)
+  halfB = take (base + n + n - (base + n)) (drop (base + n) kept)
 
-  a-long : length halfA ≡ half
-  a-long = length-part (pos 0) base (base + half - base) kept (omega arith) ∙ one
+  a-long : length halfA ≡ n
+  a-long = length-part (pos 0) base (base + n - base) kept (omega arith) ∙ one
     where
-      one : base + half - base ≡ half
+      one : base + n - base ≡ n
       one = omega arith
 
-  b-long : length halfB ≡ half
-  b-long = length-part (pos 0) (base + half) (base + half + half - (base + half)) kept (omega arith) ∙ one
+  b-long : length halfB ≡ n
+  b-long = length-part (pos 0) (base + n) (base + n + n - (base + n)) kept (omega arith) ∙ one
     where
-      one : base + half + half - (base + half) ≡ half
+      one : base + n + n - (base + n) ≡ n
       one = omega arith
 
-  lines-long : length (joinedHalves SCALE-DIGITS halfA halfB) ≡ 2 * half
+  lines-long : length (joinedHalves SCALE-DIGITS halfA halfB) ≡ 2 * n
   lines-long = length-tabulate (2 * length halfA) _ ∙ ap (λ (n : ℕ). 2 * n) a-long
 
   -- their lines are the cells of the level
-  lines-joined : 0 < half → base % (2 * half) ≡ 0 → (i : ℕ) → i < 2 * half → cell (joinedHalves SCALE-DIGITS halfA halfB) i ≡ joinedAt SCALE-DIGITS half (cell kept) (base + i)
+  lines-joined : 0 < n → base % (2 * n) ≡ 0 → (i : ℕ) → i < 2 * n → cell (joinedHalves SCALE-DIGITS halfA halfB) i ≡ joinedAt SCALE-DIGITS n (cell kept) (base + i)
   lines-joined some whole i h = getD-tabulate (2 * length halfA) _ (pos 0) i (omega (arith, a-long)) ∙ ap (λ (n : ℕ). lineAt SCALE-DIGITS n (cell halfA) (cell halfB) i) a-long
-      ∙ line-cong (rounded SCALE) (tableCosine SCALE-DIGITS) (tableSine SCALE-DIGITS) half (cell halfA) (λ j. cell kept (base / (2 * half) * (2 * half) + j)) (cell halfB) (λ j. cell kept (base / (2 * half) * (2 * half) + (half + j))) i some at-a at-b
-      ∙ sym (in-pair (rounded SCALE) (tableCosine SCALE-DIGITS) (tableSine SCALE-DIGITS) half some (cell kept) (base / (2 * half)) i h) ∙ ap (λ (b : ℕ). joinedAt SCALE-DIGITS half (cell kept) (b + i)) start
+      ∙ line-cong (rounded SCALE) (tableCosine SCALE-DIGITS) (tableSine SCALE-DIGITS) n (cell halfA) (λ j. cell kept (base / (2 * n) * (2 * n) + j)) (cell halfB) (λ j. cell kept (base / (2 * n) * (2 * n) + (n + j))) i some at-a at-b
+      ∙ sym (in-pair (rounded SCALE) (tableCosine SCALE-DIGITS) (tableSine SCALE-DIGITS) n some (cell kept) (base / (2 * n)) i h) ∙ ap (λ (b : ℕ). joinedAt SCALE-DIGITS n (cell kept) (b + i)) start
     where
-      start : base / (2 * half) * (2 * half) ≡ base
-      start = omega (arith, div-add-mod' base (2 * half))
+      start : base / (2 * n) * (2 * n) ≡ base
+      start = omega (arith, div-add-mod' base (2 * n))
 
-      at-a : (j : ℕ) → j < half → cell halfA j ≡ cell kept (base / (2 * half) * (2 * half) + j)
-      at-a j k = rw start (part-at (pos 0) base (base + half - base) kept j (omega arith))
+      at-a : (j : ℕ) → j < n → cell halfA j ≡ cell kept (base / (2 * n) * (2 * n) + j)
+      at-a j k = rw start (part-at (pos 0) base (base + n - base) kept j (omega arith))
 
-      at-b : (j : ℕ) → j < half → cell halfB j ≡ cell kept (base / (2 * half) * (2 * half) + (half + j))
-      at-b j k = rw (start, sym (add-assoc base half j)) (part-at (pos 0) (base + half) (base + half + half - (base + half)) kept j (omega arith))
+      at-b : (j : ℕ) → j < n → cell halfB j ≡ cell kept (base / (2 * n) * (2 * n) + (n + j))
+      at-b j k = rw (start, sym (add-assoc base n j)) (part-at (pos 0) (base + n) (base + n + n - (base + n)) kept j (omega arith))
 
   -- and written into the cells, which were filled up to base, they fill them up to the end of the pair
-  pair-written : 0 < half → base % (2 * half) ≡ 0 → (cells ys : List ℤ) → length cells ≡ length kept → Filled (pos 0) (joinedAt SCALE-DIGITS half (cell kept)) base cells →
-      ys ≡ joinedHalves SCALE-DIGITS halfA halfB → let after = putMid base (base + half + half - base) cells ys in
-      (length after ≡ length kept) × Filled (pos 0) (joinedAt SCALE-DIGITS half (cell kept)) (base + half + half) after
+  pair-written : 0 < n → base % (2 * n) ≡ 0 → (cells ys : List ℤ) → length cells ≡ length kept → Filled (pos 0) (joinedAt SCALE-DIGITS n (cell kept)) base cells →
+      ys ≡ joinedHalves SCALE-DIGITS halfA halfB → let after = putMid base (base + n + n - base) cells ys in
+      (length after ≡ length kept) × Filled (pos 0) (joinedAt SCALE-DIGITS n (cell kept)) (base + n + n) after
   pair-written some whole cells ys many F e = (
-    same-len-mid base (base + half + half - base) cells ys (long ∙ sym (cells-long cells base half (omega arith))) ∙ many,
-    λ i h. filled-part (pos 0) (joinedAt SCALE-DIGITS half (cell kept)) base (2 * half) cells ys _ (omega arith) F long
+    same-len-mid base (base + n + n - base) cells ys (long ∙ sym (cells-long cells base n (omega arith))) ∙ many,
+    λ i h. filled-part (pos 0) (joinedAt SCALE-DIGITS n (cell kept)) base (2 * n) cells ys _ (omega arith) F long
         (λ i k. ap (λ (zs : List ℤ). cell zs i) e ∙ lines-joined some whole i k) i (omega arith),
   )
     where
-      long : length ys ≡ 2 * half
+      long : length ys ≡ 2 * n
       long = ap length e ∙ lines-long
 
 -- of pairs that begin at multiples of d, one that begins inside ends inside

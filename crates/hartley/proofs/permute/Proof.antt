@@ -9,8 +9,7 @@ use lib.ListN.{length, length-set}
 use lib.Pow.{pow-mono}
 use mir.Facts.{toZ-ofZ}
 use denote.Ref.{now}
-use Rattle.ints.specs.Tabulate.{Filled}
-use Rattle.ints.proofs.Filling.{filled-next, filled-all}
+use Rattle.ints.proofs.Filling.{Filled, filled-next, filled-all}
 use Rattle.spectrum.specs.Levels.{cell, reversed, permuted}
 use Rattle.spectrum.proofs.Reversal.{reversed-zero, reversed-lt}
 use Rattle.hartley.proofs.permute.Statement.{statement}

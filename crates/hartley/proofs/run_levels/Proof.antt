@@ -20,16 +20,16 @@ use Rattle.spectrum.proofs.Stages.{length-levels}
 use Rattle.spectrum.proofs.Distance.{whole-turn}
 use Rattle.spectrum.specs.Limits.{LARGEST-CELL}
 use Rattle.ints.specs.Quotient.{rounded}
-use Rattle.hartley.specs.Workers.{turned, Joins, NoneAbove}
+use Rattle.hartley.specs.Workers.{overHalfTurn, Joins, NoneAbove}
 use Rattle.hartley.proofs.run_levels.Statement.{statement}
 use Rattle.hartley.proofs.run_levels.Tie as tie
 
 abbrev Inv-loop : tie.InvT-loop
-Inv-loop cells₀ kept₀ cosines sines p half₀ stride₀ level₀ cells kept half stride level =
-    (level ≤ p) × (half ≡ 2 ^ level) × (stride ≡ 2 ^ (p - level) / 2) × (cells ≡ levelsAt SCALE-DIGITS level cells₀) × (length kept ≡ 2 ^ p)
+Inv-loop cells₀ kept₀ cosines sines p half₀ stride₀ level₀ cells kept n stride level =
+    (level ≤ p) × (n ≡ 2 ^ level) × (stride ≡ 2 ^ (p - level) / 2) × (cells ≡ levelsAt SCALE-DIGITS level cells₀) × (length kept ≡ 2 ^ p)
 
 abbrev μ-loop : tie.MeasureT-loop
-μ-loop cells₀ kept₀ cosines sines p half₀ stride₀ level₀ cells kept half stride level = p - level
+μ-loop cells₀ kept₀ cosines sines p half₀ stride₀ level₀ cells kept n stride level = p - level
 
 -- ---- halves and stride of the level after `level` levels, over plain numbers
 
@@ -49,9 +49,9 @@ all-cells p level h = ap (λ (x : ℕ). 2 ^ x) sum ∙ pow-add 2 (p - suc level)
 turn-in-steps : (p : ℕ) → p ≤ 10 → 2 ^ p * (TURN / 2 ^ p) ≡ TURN
 turn-in-steps p few = ap (λ (x : ℕ). 2 ^ p * x) (ap (λ (x : ℕ). x / 2 ^ p) (sym (one-mul TURN)) ∙ whole-steps (2 ^ p) (2 ^ (10 - p)) 1 (pow-pos p) (whole-turn p few) ∙ one-mul (2 ^ (10 - p))) ∙ whole-turn p few
 
-joins : (p level : ℕ) → p ≤ 10 → level < p → (half stride : ℕ) (cosines sines : List ℤ) → half ≡ 2 ^ level → stride ≡ 2 ^ (p - level) / 2 →
-    cosines ≡ turned (tableCosine SCALE-DIGITS) (2 ^ p) → sines ≡ turned (tableSine SCALE-DIGITS) (2 ^ p) → Joins half stride cosines sines
-joins p level few h half stride cosines sines eh es hc hs = record {
+joins : (p level : ℕ) → p ≤ 10 → level < p → (n stride : ℕ) (cosines sines : List ℤ) → n ≡ 2 ^ level → stride ≡ 2 ^ (p - level) / 2 →
+    cosines ≡ overHalfTurn (tableCosine SCALE-DIGITS) (2 ^ p) → sines ≡ overHalfTurn (tableSine SCALE-DIGITS) (2 ^ p) → Joins n stride cosines sines
+joins p level few h n stride cosines sines eh es hc hs = record {
   some = rw eh (pow-pos level);
   apart = TURN / 2 ^ p;
   turn = whole (TURN / 2 ^ p) (turn-in-steps p few);
@@ -59,24 +59,24 @@ joins p level few h half stride cosines sines eh es hc hs = record {
   at-sines = hs ∙ ap (λ (n : ℕ). tabulate n (λ j. tableSine SCALE-DIGITS (j * (TURN / 2 ^ p)))) (sym count);
 }
   where
-    cells : 2 ^ p ≡ 2 * (half * stride)
+    cells : 2 ^ p ≡ 2 * (n * stride)
     cells = let t : stride ≡ 2 ^ (p - suc level) = omega (arith, rest p level h) in rw (eh, t) (omega (arith, all-cells p level h))
 
-    count : half * stride ≡ 2 ^ p / 2
+    count : n * stride ≡ 2 ^ p / 2
     count = omega (arith, cells)
 
-    whole : (apart : ℕ) → 2 ^ p * apart ≡ TURN → 2 * half * (stride * apart) ≡ TURN
+    whole : (apart : ℕ) → 2 ^ p * apart ≡ TURN → 2 * n * (stride * apart) ≡ TURN
     whole apart e = omega (arith, e, ap (λ (x : ℕ). x * apart) cells)
 
-whole-pairs : (p level half : ℕ) → level < p → half ≡ 2 ^ level → 2 ^ p % (2 * half) ≡ 0
-whole-pairs p level half h e = rw (e, all-cells p level h) (mul-mod-left (2 ^ (p - suc level)) (2 * 2 ^ level))
+whole-pairs : (p level n : ℕ) → level < p → n ≡ 2 ^ level → 2 ^ p % (2 * n) ≡ 0
+whole-pairs p level n h e = rw (e, all-cells p level h) (mul-mod-left (2 ^ (p - suc level)) (2 * 2 ^ level))
 
 as-many : (L : ℕ) (xs : List ℤ) → length (levelsAt SCALE-DIGITS L xs) ≡ length xs
 as-many = length-levels (rounded SCALE) (tableCosine SCALE-DIGITS) (tableSine SCALE-DIGITS)
 
-next-level : (L half : ℕ) (xs kept ys : List ℤ) → ys ≡ levelAt SCALE-DIGITS half kept → half ≡ 2 ^ L → kept ≡ levelsAt SCALE-DIGITS L xs → ys ≡ levelsAt SCALE-DIGITS (L + 1) xs
+next-level : (L n : ℕ) (xs kept ys : List ℤ) → ys ≡ levelAt SCALE-DIGITS n kept → n ≡ 2 ^ L → kept ≡ levelsAt SCALE-DIGITS L xs → ys ≡ levelsAt SCALE-DIGITS (L + 1) xs
 unfolding levels
-next-level L half xs kept ys e f g = rw (add-one L) (e ∙ ap₂ (levelAt SCALE-DIGITS) f g)
+next-level L n xs kept ys e f g = rw (add-one L) (e ∙ ap₂ (levelAt SCALE-DIGITS) f g)
 
 -- ---- the round to which a point of the loop's body belongs: once the cells are copied, and at its end
 

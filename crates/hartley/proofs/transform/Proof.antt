@@ -1,4 +1,4 @@
--- `transform` is right because it permutes a copy of the cells and runs the levels on them, with cosines and sines that `fill_turn` has set.
+-- `transform` is right because it permutes a copy of the cells and runs the levels on them, with cosines and sines that `fill_half_turn` has set.
 use borrow.Author.Needs.{needs}
 use mathlib.Core.Path.{_≡_, refl, sym, _∙_, ap}
 use mathlib.Core.List.{List, _++_}
@@ -15,7 +15,7 @@ use Rattle.spectrum.specs.Spectrum.{tableCosine, tableSine, levelsAt, forwardAt
 use Rattle.spectrum.proofs.Stages.{length-permuted}
 use Rattle.spectrum.proofs.Demand3.{forward-room}
 use Rattle.refusal.specs.BlockKinds.{SCALE-DIGITS}
-use Rattle.hartley.specs.Workers.{Ready, turned}
+use Rattle.hartley.specs.Workers.{Ready, overHalfTurn}
 use Rattle.hartley.proofs.transform.Statement.{statement}
 use Rattle.hartley.proofs.transform.Tie as tie
 
@@ -27,10 +27,10 @@ permuted-at c = c .before .before .before .before .before
 abbrev kept-at : tie.After-permute → tie.After-copy
 kept-at c = c .before .before .before .before
 
-abbrev filled-at : tie.After-copy → tie.After-fill-turn
+abbrev filled-at : tie.After-copy → tie.After-fill-half-turn
 filled-at c = c .before .before .before .before .before
 
-abbrev start-at : tie.After-fill-turn → tie.Start
+abbrev start-at : tie.After-fill-half-turn → tie.Start
 start-at c = c .before .before .before
 
 -- ---- the front of a longer list, to which something was written
@@ -43,8 +43,8 @@ front-fits n e d h q = omega (arith, length-append e d, ap length q)
 
 -- ---- the lists of cosines and sines
 
-turned-many : (trig : ℕ → ℤ) (N : ℕ) → length (turned trig N) ≡ N / 2
-turned-many trig N = length-tabulate (N / 2) _
+half-turn-many : (trig : ℕ → ℤ) (N : ℕ) → length (overHalfTurn trig N) ≡ N / 2
+half-turn-many trig N = length-tabulate (N / 2) _
 
 -- ---- the block's length
 
@@ -57,17 +57,17 @@ some c = rw (c .pre .long) (pow-pos (c .args .p))
 array-borrow-prefix-cosines : tie.Need-array-borrow-prefix-cosines
 array-borrow-prefix-cosines c = omega (arith, few c)
 
-slice-aggregate-fill-turn : tie.Need-slice-aggregate-fill-turn
-slice-aggregate-fill-turn c = sym (length-take-le _ _ (omega (arith, few (c .before))))
+slice-aggregate-fill-half-turn : tie.Need-slice-aggregate-fill-half-turn
+slice-aggregate-fill-half-turn c = sym (length-take-le _ _ (omega (arith, few (c .before))))
 
 array-borrow-prefix-sines : tie.Need-array-borrow-prefix-sines
 array-borrow-prefix-sines c = omega (arith, few (c .before))
 
-slice-aggregate-fill-turn-2 : tie.Need-slice-aggregate-fill-turn-2
-slice-aggregate-fill-turn-2 c = sym (length-take-le _ _ (omega (arith, few (c .before .before))))
+slice-aggregate-fill-half-turn-2 : tie.Need-slice-aggregate-fill-half-turn-2
+slice-aggregate-fill-half-turn-2 c = sym (length-take-le _ _ (omega (arith, few (c .before .before))))
 
-fill-turn-requires : tie.Need-fill-turn-requires
-fill-turn-requires c κs = let s = c .before .before in (some s, length-take-le _ _ (omega (arith, few s)), length-take-le _ _ (omega (arith, few s)))
+fill-half-turn-requires : tie.Need-fill-half-turn-requires
+fill-half-turn-requires c κs = let s = c .before .before in (some s, length-take-le _ _ (omega (arith, few s)), length-take-le _ _ (omega (arith, few s)))
 
 array-borrow-prefix-kept : tie.Need-array-borrow-prefix-kept
 array-borrow-prefix-kept c = few (start-at (c .before .before .before))
@@ -95,16 +95,16 @@ slice-aggregate-run-levels : tie.Need-slice-aggregate-run-levels
 slice-aggregate-run-levels c = sym (ap length (front _ _ _ refl (kept-at (c .before .before .before) .copy .ensures)))
 
 array-share-prefix-cosines : tie.Need-array-share-prefix-cosines
-array-share-prefix-cosines c = front-fits _ _ _ (turned-many (tableCosine SCALE-DIGITS) _) (filled-at (kept-at (c .before .before .before)) .fill-turn .ensures .0)
+array-share-prefix-cosines c = front-fits _ _ _ (half-turn-many (tableCosine SCALE-DIGITS) _) (filled-at (kept-at (c .before .before .before)) .fill-half-turn .ensures .0)
 
 slice-aggregate-run-levels-2 : tie.Need-slice-aggregate-run-levels-2
-slice-aggregate-run-levels-2 c = sym (ap length (front _ _ _ (turned-many (tableCosine SCALE-DIGITS) _) (filled-at (kept-at (c .before .before .before .before)) .fill-turn .ensures .0)) ∙ turned-many (tableCosine SCALE-DIGITS) _)
+slice-aggregate-run-levels-2 c = sym (ap length (front _ _ _ (half-turn-many (tableCosine SCALE-DIGITS) _) (filled-at (kept-at (c .before .before .before .before)) .fill-half-turn .ensures .0)) ∙ half-turn-many (tableCosine SCALE-DIGITS) _)
 
 array-share-prefix-sines : tie.Need-array-share-prefix-sines
-array-share-prefix-sines c = front-fits _ _ _ (turned-many (tableSine SCALE-DIGITS) _) (filled-at (kept-at (c .before .before .before .before)) .fill-turn .ensures .1)
+array-share-prefix-sines c = front-fits _ _ _ (half-turn-many (tableSine SCALE-DIGITS) _) (filled-at (kept-at (c .before .before .before .before)) .fill-half-turn .ensures .1)
 
 slice-aggregate-run-levels-3 : tie.Need-slice-aggregate-run-levels-3
-slice-aggregate-run-levels-3 c = sym (ap length (front _ _ _ (turned-many (tableSine SCALE-DIGITS) _) (filled-at (kept-at (permuted-at c)) .fill-turn .ensures .1)) ∙ turned-many (tableSine SCALE-DIGITS) _)
+slice-aggregate-run-levels-3 c = sym (ap length (front _ _ _ (half-turn-many (tableSine SCALE-DIGITS) _) (filled-at (kept-at (permuted-at c)) .fill-half-turn .ensures .1)) ∙ half-turn-many (tableSine SCALE-DIGITS) _)
 
 run-levels-requires : tie.Need-run-levels-requires
 run-levels-requires c κs = let k = kept-at (permuted-at c) in let f = filled-at k in let s = start-at f in let xs = now (s .args .cells) in let p = s .args .p in
@@ -113,8 +113,8 @@ run-levels-requires c κs = let k = kept-at (permuted-at c) in let f = filled-at
       most = s .pre .most;
       long = ap length cells ∙ length-permuted p xs;
       as-long = ap length kept ∙ s .pre .long;
-      at-cosines = front _ _ _ (turned-many (tableCosine SCALE-DIGITS) _) (f .fill-turn .ensures .0) ∙ ap (turned (tableCosine SCALE-DIGITS)) (s .pre .long);
-      at-sines = front _ _ _ (turned-many (tableSine SCALE-DIGITS) _) (f .fill-turn .ensures .1) ∙ ap (turned (tableSine SCALE-DIGITS)) (s .pre .long);
+      at-cosines = front _ _ _ (half-turn-many (tableCosine SCALE-DIGITS) _) (f .fill-half-turn .ensures .0) ∙ ap (overHalfTurn (tableCosine SCALE-DIGITS)) (s .pre .long);
+      at-sines = front _ _ _ (half-turn-many (tableSine SCALE-DIGITS) _) (f .fill-half-turn .ensures .1) ∙ ap (overHalfTurn (tableSine SCALE-DIGITS)) (s .pre .long);
       quiet = λ L h. record { size = λ i. rw cells (forward-room L p h (s .pre .most) xs (s .pre .quiet .size) i) };
     }
 
@@ -131,10 +131,10 @@ transform-spec =
     tie.close
     (tie.spec
     array-borrow-prefix-cosines
-    slice-aggregate-fill-turn
+    slice-aggregate-fill-half-turn
     array-borrow-prefix-sines
-    slice-aggregate-fill-turn-2
-    fill-turn-requires
+    slice-aggregate-fill-half-turn-2
+    fill-half-turn-requires
     array-borrow-prefix-kept
     slice-aggregate-copy
     copy-requires

@@ -1,4 +1,4 @@
--- `fill_turn` is right because each of the two lists is filled from the front with the table's cosine, or sine, of the same step.
+-- `fill_half_turn` is right because each of the two lists is filled from the front with the table's cosine, or sine, of the same step.
 use borrow.Author.Needs.{needs, sfits-of}
 use mathlib.Core.Path.{_≡_, sym, _∙_, ap}
 use mathlib.Core.List.{List}
@@ -8,22 +8,21 @@ use native.Mathlib.Omega.{arith}
 use lib.IntN.{pos}
 use lib.ListN.{length, length-set}
 use mir.Facts.{toZ-ofZ}
-use Rattle.ints.specs.Tabulate.{Filled}
-use Rattle.ints.proofs.Filling.{filled-next, filled-all}
+use Rattle.ints.proofs.Filling.{Filled, filled-next, filled-all}
 use Rattle.refusal.specs.BlockKinds.{SCALE-DIGITS, TURN}
 use Rattle.cosine.specs.Cosine.{cosine, sine, entries, quarterTable}
 use Rattle.cosine.proofs.Turn.{cosine-listed, sine-listed}
 use Rattle.spectrum.specs.Spectrum.{tableCosine, tableSine}
-use Rattle.hartley.proofs.fill_turn.Statement.{statement}
-use Rattle.hartley.proofs.fill_turn.Tie as tie
+use Rattle.hartley.proofs.fill_half_turn.Statement.{statement}
+use Rattle.hartley.proofs.fill_half_turn.Tie as tie
 
 abbrev Inv-loop : tie.InvT-loop
-Inv-loop cosines₀ sines₀ n quarter apart j₀ cosines sines j =
-    (j ≤ n / 2) × (length cosines ≡ n / 2) × (length sines ≡ n / 2)
-    × Filled (pos 0) (λ k. tableCosine SCALE-DIGITS (k * (TURN / n))) j cosines × Filled (pos 0) (λ k. tableSine SCALE-DIGITS (k * (TURN / n))) j sines
+Inv-loop cosines₀ sines₀ len quarter apart j₀ cosines sines j =
+    (j ≤ len / 2) × (length cosines ≡ len / 2) × (length sines ≡ len / 2)
+    × Filled (pos 0) (λ k. tableCosine SCALE-DIGITS (k * (TURN / len))) j cosines × Filled (pos 0) (λ k. tableSine SCALE-DIGITS (k * (TURN / len))) j sines
 
 abbrev μ-loop : tie.MeasureT-loop
-μ-loop cosines₀ sines₀ n quarter apart j₀ cosines sines j = n / 2 - j
+μ-loop cosines₀ sines₀ len quarter apart j₀ cosines sines j = len / 2 - j
 
 step-small : (j n : ℕ) → j ≤ n → j * (TURN / n) ≤ TURN
 step-small j n h = omega (arith, mul-le-mul-right (TURN / n) h, div-add-mod TURN n)
@@ -91,8 +90,8 @@ returns : tie.Need-returns Inv-loop μ-loop
 returns c = let l = c .before .loop in
     (filled-all (pos 0) _ (l .cosines) _ (l .inv .1) (λ k h. l .inv .3 k (omega (arith, l .inv .1))), filled-all (pos 0) _ (l .sines) _ (l .inv .2) (λ k h. l .inv .4 k (omega (arith, l .inv .1))))
 
-pub fill-turn-spec : {M : Type 1} → statement M
-fill-turn-spec =
+pub fill-half-turn-spec : {M : Type 1} → statement M
+fill-half-turn-spec =
     tie.close
     (tie.spec
     Inv-loop
