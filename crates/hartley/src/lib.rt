@@ -14,7 +14,7 @@ ghost use Rattle.spectrum.specs.Levels.{cell, permuted, reversed};
 ghost use Rattle.spectrum.specs.Spectrum.{tableCosine, tableSine, levelAt, levelsAt, forward, backward};
 ghost use Rattle.spectrum.specs.Distance.{WithinE};
 ghost use Rattle.spectrum.specs.Limits.{LARGEST-CELL, LARGEST-SUM};
-ghost use Rattle.hartley.specs.Calls.{answer, testedSpectrum, leaves, notLoud, testedSamples, tested};
+ghost use Rattle.hartley.specs.Calls.{answerTo, cellsLeft, firstFault, firstLoud, numbers, tested, testedSamples, testedSpectrum};
 ghost use Rattle.hartley.specs.Workers.{joinedHalves, Joins, NoneAbove, Pair, Ready, Runs, overHalfTurn};
 ghost use Rattle.hartley.specs.declared.Answer.the-variants.{Done};
 
@@ -33,8 +33,9 @@ pub enum Answer {
 
 // The forward spectrum of a block of samples, which it replaces.
 pub fn forward(cells: &mut [i64]) -> Answer
-    ensures answer { λ r. ⌜ r ≡ answer (testedSamples (now (cells .entry))) ⌝ }
-    ensures cells { λ _. ⌜ now (cells .exit) ≡ leaves forward (now (cells .entry)) (testedSamples (now (cells .entry))) ⌝ }
+    ensures answer { λ r. ⌜ r ≡ answerTo (testedSamples (now (cells .entry))) ⌝ }
+    ensures numbers { λ r. ⌜ numbers r ≡ firstFault (testedSamples (now (cells .entry))) ⌝ }
+    ensures cells { λ _. ⌜ now (cells .exit) ≡ cellsLeft forward (now (cells .entry)) (testedSamples (now (cells .entry))) ⌝ }
     ensures distance { λ r. ⌜ (r ≡ Done → (P : ℕ) × (length (now (cells .entry)) ≡ 2 ^ P) × WithinE P (now (cells .entry)) (now (cells .exit))) ⌝ }
     ensures first_line { λ r. ⌜ (r ≡ Done → cell (now (cells .exit)) 0 ≡ sum (length (now (cells .entry))) (cell (now (cells .entry)))) ⌝ }
 {
@@ -49,8 +50,9 @@ pub fn forward(cells: &mut [i64]) -> Answer
 
 // The same steps on a lent spectrum, then each cell divided by their number with rounding, in the spectrum's place.
 pub fn backward(cells: &mut [i64]) -> Answer
-    ensures answer { λ r. ⌜ r ≡ answer (testedSpectrum (now (cells .entry))) ⌝ }
-    ensures cells { λ _. ⌜ now (cells .exit) ≡ leaves backward (now (cells .entry)) (testedSpectrum (now (cells .entry))) ⌝ }
+    ensures answer { λ r. ⌜ r ≡ answerTo (testedSpectrum (now (cells .entry))) ⌝ }
+    ensures numbers { λ r. ⌜ numbers r ≡ firstFault (testedSpectrum (now (cells .entry))) ⌝ }
+    ensures cells { λ _. ⌜ now (cells .exit) ≡ cellsLeft backward (now (cells .entry)) (testedSpectrum (now (cells .entry))) ⌝ }
 {
     match tested(cells, -LARGEST_LINE, LARGEST_LINE) {
         KindAnswer::Refused(refusal) => Answer::Refused(refusal),
@@ -68,23 +70,30 @@ fn tested(cells: &[i64], low: i64, high: i64) -> KindAnswer
 {
     match BlockKind::of_len(cells.len()) {
         KindAnswer::Refused(refusal) => KindAnswer::Refused(refusal),
-        KindAnswer::Taken(kind) => not_loud(cells, low, high, kind),
+        KindAnswer::Taken(kind) => {
+            let place = first_loud(cells, low, high);
+            if place < cells.len() {
+                KindAnswer::Refused(Refusal::Loud(place))
+            } else {
+                KindAnswer::Taken(kind)
+            }
+        }
     }
 }
 
-// The kind of a block with no cell outside low to high, or the refusal of its first such cell.
-fn not_loud(cells: &[i64], low: i64, high: i64, kind: BlockKind) -> KindAnswer
-    ensures { λ r. ⌜ r ≡ notLoud low high kind 0 (now (cells .entry)) ⌝ }
+// The place of the first cell outside low to high, or the number of cells where there is none.
+fn first_loud(cells: &[i64], low: i64, high: i64) -> usize
+    ensures { λ r. ⌜ r ≡ firstLoud low high (now (cells .entry)) ⌝ }
 {
     let mut i = 0;
     while i < cells.len() {
         let x = cells[i];
         if x < low || high < x {
-            return KindAnswer::Refused(Refusal::Loud(i));
+            return i;
         }
         i += 1;
     }
-    KindAnswer::Taken(kind)
+    i
 }
 
 // Permutes the 2^p cells and runs all levels on them.

@@ -8,7 +8,8 @@ use denote.Ref.{now}
 use Rattle.ints.specs.Quotient.{rounded}
 use Rattle.refusal.specs.declared.KindAnswer.the-variants.{Taken}
 use Rattle.spectrum.specs.Spectrum.{backward}
-use Rattle.hartley.specs.Calls.{answer, leaves, testedSpectrum}
+use Rattle.spectrum.specs.Limits.{LOUDEST-LINE}
+use Rattle.hartley.specs.Calls.{answerTo, cellsLeft, firstFault, testedSpectrum}
 use Rattle.hartley.proofs.Taken.{taken-ready}
 use Rattle.hartley.proofs.backward.Statement.{statement}
 use Rattle.hartley.proofs.backward.Tie as tie
@@ -30,7 +31,7 @@ enum-known-kind : tie.Need-enum-known-kind
 enum-known-kind c = search needs
 
 transform-requires : tie.Need-transform-requires
-transform-requires c κs = taken-ready (2 ^ 28) (2 ^ 28) _ _ (omega arith) (omega arith) (taken (c .before .before))
+transform-requires c κs = taken-ready (LOUDEST-LINE) (LOUDEST-LINE) _ _ (omega arith) (omega arith) (taken (c .before .before))
 
 divide-requires : tie.Need-divide-requires
 divide-requires c κs = search needs
@@ -39,7 +40,7 @@ same-length : tie.Need-same-length
 same-length c = search needs
 
 returns : tie.Need-returns
-returns c = let e = sym (c .before .before .before .tested .ensures) ∙ c .before .refusal .given .1 in (sym (ap answer e), sym (ap (leaves backward _) e))
+returns c = let e = sym (c .before .before .before .tested .ensures) ∙ c .before .refusal .given .1 in (sym (ap answerTo e), (sym (ap firstFault e), sym (ap (cellsLeft backward _) e)))
 
 same-length-2 : tie.Need-same-length-2
 same-length-2 c = search needs
@@ -48,7 +49,7 @@ returns-2 : tie.Need-returns-2
 unfolding backward
 returns-2 c = let k = c .before .before .before .before .before .before .before in let e = taken k in
     let t = c .before .before .before .before .transform .ensures in let p = k .kind .given .0 .0 .p in
-    (sym (ap answer e), c .before .divide .ensures ∙ ap (map (rounded (2 ^ p))) t ∙ sym (ap (leaves backward _) e))
+    (sym (ap answerTo e), (sym (ap firstFault e), c .before .divide .ensures ∙ ap (map (rounded (2 ^ p))) t ∙ sym (ap (cellsLeft backward _) e)))
 
 pub backward-spec : {M : Type 1} → statement M
 backward-spec =

@@ -16,7 +16,7 @@ use Rattle.spectrum.specs.Spectrum.{forward}
 use Rattle.spectrum.specs.Distance.{WithinE}
 use Rattle.spectrum.specs.Limits.{LOUDEST-SAMPLE}
 use Rattle.spectrum.proofs.Demand3.{demand-3, forward-first}
-use Rattle.hartley.specs.Calls.{answer, leaves, testedSamples}
+use Rattle.hartley.specs.Calls.{answerTo, cellsLeft, firstFault, testedSamples}
 use Rattle.hartley.specs.declared.Answer.{Answer}
 use Rattle.hartley.specs.declared.Answer.the-variants.{Done, Refused}
 use Rattle.hartley.proofs.Taken.{taken-kind, taken-quiet, taken-ready}
@@ -56,7 +56,7 @@ same-length c = search needs
 
 returns : tie.Need-returns
 returns c = let r = c .before .refusal .given .0 .0 in let e = sym (c .before .before .before .tested .ensures) ∙ c .before .refusal .given .1 in
-    (sym (ap answer e), (sym (ap (leaves forward _) e), (refused-not-done r, refused-not-done r)))
+    (sym (ap answerTo e), (sym (ap firstFault e), (sym (ap (cellsLeft forward _) e), (refused-not-done r, refused-not-done r))))
 
 same-length-2 : tie.Need-same-length-2
 same-length-2 c = search needs
@@ -64,7 +64,7 @@ same-length-2 c = search needs
 returns-2 : tie.Need-returns-2
 returns-2 c = let k = c .before .before .before .before in let xs = now (k .before .before .before .before .args .cells) in let kind = k .kind .given .0 .0 in
     let e = taken k in let t = c .before .transform .ensures in
-    (sym (ap answer e), (t ∙ sym (ap (leaves forward xs) e), (λ h. rw t (near xs kind e), λ h. ap (λ (ys : List ℤ). cell ys 0) t ∙ first xs kind e)))
+    (sym (ap answerTo e), (sym (ap firstFault e), (t ∙ sym (ap (cellsLeft forward xs) e), (λ h. rw t (near xs kind e), λ h. ap (λ (ys : List ℤ). cell ys 0) t ∙ first xs kind e))))
 
 pub forward-spec : {M : Type 1} → statement M
 forward-spec =
