@@ -2,7 +2,7 @@
 -- moments' part has each angle moved by k, the step of line v; by the sum law of cas it is near Do(v) c(k) + Do(n − v) s(k), which is just what
 -- a level computes from the odd half's line v and its mirror. And the sizes of direct sums.
 -- Example: `direct-split n g z e x v`, with e : 2 * n * g ≡ 1024, is the split; `odd-near` is the sum law under the sum.
-use mathlib.Core.Path.{_≡_, refl, sym, _∙_, ap, ap₂}
+use mathlib.Core.Path.{_≡_, sym, _∙_, ap, ap₂}
 use mathlib.Core.List.{List, [], _∷_}
 use Prim.Native.Nat.{ℕ, zero, suc, _+_, _*_, _-_, _/_, _%_, _^_, _≤_, _<_}
 use native.Mathlib.Nat.{sub-zero, mod-lt, mod-eq-of-lt, mod-self, div-add-mod', mul-le-mul}
@@ -33,8 +33,9 @@ abbrev pub oddSum : ℕ → (ℕ → ℤ) → ℕ → ℤ
 oddSum n x w = direct n (λ u. x (2 * u + 1)) w
 
 pub directSum-is : (xs : List ℤ) (v : ℕ) → directSum fine xs v ≡ direct (length xs) (cell xs) v
-unfolding directSum
-directSum-is xs v = refl
+unfolding directSum cas
+directSum-is xs v = sum-cong (length xs) _ _ (λ t k. let j = v * t * 1024 / length xs % 1024 in
+    ring (cell xs t ∷ cosine fine j ∷ sine fine j ∷ []) (search quotes) tt)
 
 -- ---- cas over whole turns and at opposite angles
 

@@ -13,7 +13,7 @@ use Rattle.spectrum.specs.Levels.{cell, reversed, permuted}
 
 reversed-suc : (P t : ℕ) → reversed (suc P) t ≡ t % 2 * 2 ^ P + reversed P (t / 2)
 unfolding reversed
-reversed-suc P t = refl
+reversed-suc P t = omega arith
 
 pub reversed-zero : (P : ℕ) → reversed P 0 ≡ 0
 unfolding reversed

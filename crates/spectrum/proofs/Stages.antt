@@ -6,7 +6,7 @@ use mathlib.Core.List.{List}
 use Prim.Native.Nat.{ℕ, zero, suc, _+_, _*_, _-_, _/_, _%_, _^_, _≤_, _<_}
 use native.Mathlib.Nat.{mul-assoc, mod-lt, mul-add-div-right, mul-add-mod-self-right, div-lt-iff-lt-mul, mul-le-mul-right}
 use native.Mathlib.Omega.{arith}
-use lib.IntN.{ℤ, pos}
+use lib.IntN.{ℤ, pos, _+ℤ_, _*ℤ_}
 use lib.ListN.{length}
 use lib.Pow.{pow-pos}
 use Rattle.ints.proofs.Powers.{two-pow}
@@ -38,9 +38,12 @@ module _ (R : ℤ → ℤ) (C S : ℕ → ℤ) where
 
   -- ---- a line reads the n cells of each half, and no other
 
+  combined : (c s : ℤ) {p q x y u w : ℤ} → p ≡ q → x ≡ y → u ≡ w → p +ℤ R (x *ℤ c +ℤ u *ℤ s) ≡ q +ℤ R (y *ℤ c +ℤ w *ℤ s)
+  combined c s e f g = rw (e, f, g) refl
+
   pub line-cong : (n : ℕ) (a c b d : ℕ → ℤ) (v : ℕ) → zero < n → ((j : ℕ) → j < n → a j ≡ c j) → ((j : ℕ) → j < n → b j ≡ d j) →
       line R C S n a b v ≡ line R C S n c d v
-  line-cong n a c b d v z h k = rw (h (v % n) (mod-lt v z), k (v % n) (mod-lt v z), k ((n - v % n) % n) (mod-lt (n - v % n) z))
+  line-cong n a c b d v z h k = combined _ _ (h _ (mod-lt v z)) (k _ (mod-lt v z)) (k _ (omega (arith, mod-lt v z, mod-lt (n - v % n) z)))
 
   -- where x from cell m · 2n on has the cells of y, as far as k · 2n of them, it is so after the level too
   joined-within : (n m k : ℕ) (x y : ℕ → ℤ) → zero < n → ((j : ℕ) → j < k * (2 * n) → x (m * (2 * n) + j) ≡ y j) →

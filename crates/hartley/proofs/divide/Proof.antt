@@ -52,10 +52,10 @@ mapped-all : (f : ℤ → ℤ) (ys xs : List ℤ) (i : ℕ) → length xs ≤ i 
 mapped-all f ys xs i h m =
     ext-getD (pos 0) xs (map f ys) (m .long ∙ sym (length-map ys f)) (λ k l. m .new k (omega arith) ∙ sym (cell-map f ys k (omega (arith, m .long))))
 
--- what is written: q, the quotient by d, where d is the divisor asked for
-written : (d : ℕ) (q x : ℤ) (divisor : ℕ) → mag q < 2 ^ 63 → mag x < 2 ^ 63 → q ≡ rounded d (toZ w64 (ofZ w64 x)) → d ≡ divisor
-    → toZ w64 (ofZ w64 q) ≡ rounded divisor x
-written d q x divisor f g e k = toZ-ofZ (sfits-of f) ∙ e ∙ ap (rounded d) (toZ-ofZ (sfits-of g)) ∙ ap (λ (n : ℕ). rounded n x) k
+-- what is written: y, which is q, the quotient by d, where d is the divisor asked for
+written : (d : ℕ) (y q x : ℤ) (divisor : ℕ) → mag q < 2 ^ 63 → mag x < 2 ^ 63 → q ≡ rounded d (toZ w64 (ofZ w64 x)) → y ≡ toZ w64 (ofZ w64 q) → d ≡ divisor
+    → y ≡ rounded divisor x
+written d y q x divisor f g e w k = w ∙ toZ-ofZ (sfits-of f) ∙ e ∙ ap (rounded d) (toZ-ofZ (sfits-of g)) ∙ ap (λ (n : ℕ). rounded n x) k
 
 abbrev Inv-loop : tie.InvT-loop
 Inv-loop cells₀ p i₀ cells i = Mapped (rounded (2 ^ p)) cells₀ cells i
@@ -90,7 +90,7 @@ loop-less c = simp length-set (omega arith)
 loop-again : tie.Need-loop-again Inv-loop μ-loop
 loop-again c = let a = c .before .before .before .loop in
     mapped-next _ _ (a .cells) (a .i) _ _ _ _ (omega arith)
-    (written _ _ _ _ (c .rounded .ok) (c .before .rounded-arg .given) (c .rounded .ensures) (omega arith)) (omega arith) (omega arith) (omega arith) (a .inv)
+    (written _ _ _ _ _ (c .rounded .ok) (c .before .rounded-arg .given) (c .rounded .ensures) (search needs) (omega arith)) (omega arith) (omega arith) (omega arith) (a .inv)
 
 same-length : tie.Need-same-length Inv-loop μ-loop
 same-length c = c .before .loop .inv .long

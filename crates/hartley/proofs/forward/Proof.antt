@@ -9,14 +9,15 @@ use lib.ListN.{length}
 use denote.Ref.{now}
 use Rattle.ints.specs.Sum.{sum}
 use Rattle.refusal.specs.declared.BlockKind.{BlockKind}
-use Rattle.refusal.specs.declared.KindAnswer.the-variants.{Taken}
+use Rattle.refusal.specs.declared.KindAnswer.{KindAnswer}
+use Rattle.refusal.specs.declared.KindAnswer.the-variants.{Taken, Refused as Untaken}
 use Rattle.refusal.specs.declared.Refusal.{Refusal}
 use Rattle.spectrum.specs.Levels.{cell}
 use Rattle.spectrum.specs.Spectrum.{forward}
 use Rattle.spectrum.specs.Distance.{WithinE}
 use Rattle.spectrum.specs.Limits.{LOUDEST-SAMPLE}
 use Rattle.spectrum.proofs.Demand3.{demand-3, forward-first}
-use Rattle.hartley.specs.Calls.{answerTo, cellsLeft, firstFault, testedSamples}
+use Rattle.hartley.specs.Calls.{answerTo, cellsLeft, firstFault, numbers, testedSamples}
 use Rattle.hartley.specs.declared.Answer.{Answer}
 use Rattle.hartley.specs.declared.Answer.the-variants.{Done, Refused}
 use Rattle.hartley.proofs.Taken.{taken-kind, taken-quiet, taken-ready}
@@ -25,6 +26,20 @@ use Rattle.hartley.proofs.forward.Tie as tie
 
 refused-not-done : {A : Type 0} (refusal : Refusal) → _≡_ {A = Answer} (Refused refusal) Done → A
 refused-not-done refusal e = let z : _≡_ {A = ℕ} 0 1 = cc in absurd (omega arith)
+
+-- a block is refused: ys, the cells that were tested, and zs, those that are left, are the lent xs
+module _ (xs ys : List ℤ) (refusal : Refusal) {k : KindAnswer} (e : k ≡ testedSamples ys) (g : k ≡ Untaken refusal) (lent : ys ≡ xs) where
+  fault : Untaken refusal ≡ testedSamples xs
+  fault = sym g ∙ e ∙ ap testedSamples lent
+
+  refused-answer : Refused refusal ≡ answerTo (testedSamples xs)
+  refused-answer = ap answerTo fault
+
+  refused-numbers : numbers (Refused refusal) ≡ firstFault (testedSamples xs)
+  refused-numbers = ap firstFault fault
+
+  refused-cells : (zs : List ℤ) → zs ≡ xs → zs ≡ cellsLeft forward xs (testedSamples xs)
+  refused-cells zs kept = kept ∙ ap (cellsLeft forward xs) fault
 
 -- what holds of the spectrum of a block that is taken
 module _ (xs : List ℤ) (kind : BlockKind) (e : testedSamples xs ≡ Taken kind) where
@@ -55,8 +70,8 @@ same-length : tie.Need-same-length
 same-length c = search needs
 
 returns : tie.Need-returns
-returns c = let r = c .before .refusal .given .0 .0 in let e = sym (c .before .before .before .tested .ensures) ∙ c .before .refusal .given .1 in
-    (sym (ap answerTo e), (sym (ap firstFault e), (sym (ap (cellsLeft forward _) e), (refused-not-done r, refused-not-done r))))
+returns c = let r = c .before .refusal .given .0 .0 in let e = c .before .before .before .tested .ensures in let g = c .before .refusal .given .1 in
+    (refused-answer _ _ r e g (search needs), (refused-numbers _ _ r e g (search needs), (refused-cells _ _ r e g (search needs) _ (search needs), (refused-not-done r, refused-not-done r))))
 
 same-length-2 : tie.Need-same-length-2
 same-length-2 c = search needs

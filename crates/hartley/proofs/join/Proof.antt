@@ -93,12 +93,20 @@ second-read c = let i = (of-second c) in let s = i .before .before .args in let 
     (reads-back (pos 0 -ℤ y) (LARGEST-SUM) (omega arith) (minus y (read-small (z .result) (LARGEST-SUM) (omega arith) (z .ensures .1))) ∙ minus-is y ∙ ap negℤ (sum-read (c .before .before .before .before)))
     ∙ sym (line-in-second-half (q .0) (cell (now (s .a))) (cell (now (s .b))) (l .v) (l .mirror) (l .entry) (here i) (l .inv .1) (l .inv .2))
 
-one-more : (v stride : ℕ) → v * stride + stride ≡ (v + 1) * stride
-one-more v stride = omega arith
+-- line 0 is its own mirror
+own-mirror : (n mirror : ℕ) → mirror ≡ 0 → mirror ≡ (n - 0) % n
+own-mirror n mirror e = e ∙ sym (ap (λ (x : ℕ). x % n) (sub-zero n) ∙ mod-self n)
+
+-- the entry after that of line v
+next-entry : (v stride entry next : ℕ) → entry ≡ v * stride → next ≡ entry + stride → next ≡ (v + 1) * stride
+next-entry v stride entry next e f = f ∙ ap (λ (x : ℕ). x + stride) e ∙ one-more
+  where
+    one-more : v * stride + stride ≡ (v + 1) * stride
+    one-more = omega arith
 
 loop-holds : tie.Need-loop-holds Inv-loop μ-loop
 loop-holds c = let n = length (now (c .args .a)) in
-    (omega arith, sym (ap (λ (x : ℕ). x % n) (sub-zero n) ∙ mod-self n), sym (zero-mul (c .args .stride)), c .pre .1 .all-lines, λ i h. absurd (not-suc-le-zero h), λ i h. absurd (not-suc-le-zero h))
+    (omega arith, own-mirror n _ (omega arith), sym (zero-mul (c .args .stride)), c .pre .1 .all-lines, λ i h. absurd (not-suc-le-zero h), λ i h. absurd (not-suc-le-zero h))
 
 mul-sum-of-products : tie.Need-mul-sum-of-products Inv-loop μ-loop
 mul-sum-of-products c = let p = here c in search needs
@@ -190,7 +198,7 @@ loop-again : tie.Need-loop-again Inv-loop μ-loop
 loop-again c = let i = (of-second c) in let s = i .before .before .args in let l = i .before .loop in let p = here i in let f = lineAt SCALE-DIGITS (length (now (s .a))) (cell (now (s .a))) (cell (now (s .b))) in (
   omega arith,
   sym (mod-eq-of-lt (omega arith)),
-  ap (λ (x : ℕ). x + s .stride) (l .inv .2) ∙ one-more (l .v) (s .stride),
+  next-entry (l .v) (s .stride) (l .entry) _ (l .inv .2) (omega arith),
   simp length-set (l .inv .3),
   written-first f (length (now (s .a))) (l .v) (l .cells) _ _ (p .below) (l .inv .3) (first-read (c .before .before)) (l .inv .4),
   written-second f (length (now (s .a))) (l .v) (l .cells) _ _ (p .below) (l .inv .3) (second-read c) (l .inv .5),

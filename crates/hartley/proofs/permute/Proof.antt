@@ -1,10 +1,11 @@
 -- `permute` is right because it counts up in reversed digits beside the places.
 use borrow.Author.Needs.{sfits-of}
 use mathlib.Core.Path.{_≡_, sym, _∙_, ap}
-use Prim.Native.Nat.{ℕ, _-_, _/_, _≤_, _<_, _^_}
+use mathlib.Core.List.{List}
+use Prim.Native.Nat.{ℕ, _-_, _≤_, _<_, _^_}
 use native.Mathlib.Nat.{not-suc-le-zero}
 use native.Mathlib.Omega.{arith}
-use lib.IntN.{pos}
+use lib.IntN.{ℤ, pos}
 use lib.ListN.{length, length-set}
 use lib.Pow.{pow-mono}
 use mir.Facts.{toZ-ofZ}
@@ -24,6 +25,10 @@ abbrev μ-loop : tie.MeasureT-loop
 
 few : (c : tie.In-loop Inv-loop μ-loop) → 2 ^ c .before .before .args .p ≤ 1024
 few c = pow-mono (c .before .before .pre .0)
+
+-- cell j is read, and cell k is meant
+read-at : (xs : List ℤ) (j k : ℕ) {x : ℤ} → x ≡ cell xs j → j ≡ k → x ≡ cell xs k
+read-at xs j k e f = e ∙ ap (cell xs) f
 
 -- the cell that is read lies in the block
 inside : (c : tie.In-loop Inv-loop μ-loop) → c .before .loop .from < 2 ^ c .before .before .args .p
@@ -57,9 +62,9 @@ loop-again : tie.Need-loop-again Inv-loop μ-loop
 loop-again c = let l = c .before .before .before .loop in let s = c .before .before .before .before in let p = s .args .p in (
   omega arith,
   simp length-set (l .inv .1),
-  c .next-reversed .ensures p (l .i) (ap (λ (x : ℕ). x / 2) (s .pre .1)) (l .inv .2),
+  c .next-reversed .ensures p (l .i) (omega (arith, s .pre .1)) (l .inv .2),
   filled-next (pos 0) (λ k. cell (now (s .args .kept)) (reversed p k)) (l .cells) (l .i) _ (omega (arith, l .inv .1))
-      (toZ-ofZ (sfits-of (c .before .cells .given)) ∙ ap (cell (now (s .args .kept))) (l .inv .2)) (l .inv .3),
+      (read-at (now (s .args .kept)) _ _ (toZ-ofZ (sfits-of (c .before .cells .given))) (omega (arith, l .inv .2))) (l .inv .3),
 )
 
 same-length : tie.Need-same-length Inv-loop μ-loop

@@ -1,6 +1,5 @@
 -- `sum_of_products` is right because no product is above 2^55 in magnitude, so nothing overflows and the machine's sum is the exact one.
 use borrow.Author.Needs.{needs}
-use mathlib.Core.List.{[], _∷_}
 use Prim.Native.Nat.{_^_, _≤_}
 use native.Mathlib.Nat.{mul-le-mul}
 use native.Mathlib.Omega.{arith}
@@ -8,7 +7,6 @@ use lib.IntN.{ℤ, _+ℤ_, _*ℤ_, natAbs}
 use mir.Facts.{toZ-ofZ}
 use mir.Syntax.{w64}
 use mir.Val.{SFits}
-use Rattle.ints.proofs.Ring.{quotes, ring}
 use Rattle.ints.proofs.Abs.{abs-plus, abs-times}
 use Rattle.ints.proofs.Fit.{fits}
 use Rattle.refusal.specs.BlockKinds.{SCALE}
@@ -39,13 +37,7 @@ add-result : tie.Need-add-result
 add-result c = search (needs, product-fits, sum-fits)
 
 returns : tie.Need-returns
-returns c = let a = c .args in let f = c .fits in
-    let hb : natAbs (a .b) ≤ LARGEST-CELL = c .pre .0 in
-    let hm : natAbs (a .mirror) ≤ LARGEST-CELL = c .pre .1 in
-    let hc : natAbs (a .cosine) ≤ SCALE = c .pre .2 in
-    let hs : natAbs (a .sine) ≤ SCALE = c .pre .3 in
-    simp (toZ-ofZ (f .b), toZ-ofZ (f .mirror), toZ-ofZ (f .cosine), toZ-ofZ (f .sine), toZ-ofZ, product-fits, sum-fits)
-    (ring (a .b ∷ a .mirror ∷ a .cosine ∷ a .sine ∷ []) (search quotes) tt, search sum-size)
+returns c = search (toZ-ofZ, product-fits, sum-fits, sum-size)
 
 pub sum-of-products-spec : {M : Type 1} → statement M
 sum-of-products-spec = tie.close (tie.spec mul-result mul-result-2 add-result returns)
