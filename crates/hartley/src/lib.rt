@@ -18,11 +18,13 @@ ghost use Rattle.hartley.specs.Calls.{answerTo, cellsLeft, firstFault, f
 ghost use Rattle.hartley.specs.Workers.{joinedHalves, Joins, NoneAbove, Pair, Ready, Runs, overHalfTurn};
 ghost use Rattle.hartley.specs.declared.Answer.the-variants.{Done};
 
-// A sample lies between these two (16 bits).
+// The least sample.
 const LEAST_SAMPLE: i64 = -32768;
 
+// The largest sample.
 const LARGEST_SAMPLE: i64 = 32767;
-// A line of a spectrum is at most this, to either side: 2^28.
+
+// The largest line of a spectrum, to either side: 2^28.
 const LARGEST_LINE: i64 = 268435456;
 
 // What a call on a block answers.

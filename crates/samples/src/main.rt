@@ -138,6 +138,8 @@ fn blocks() {
     forward_of(&mut [1, 2, 32768, -40000]);
     forward_of(&mut [-32768, 32767]);
     forward_of(&mut [-32769, 0]);
+    // the length is tested first
+    forward_of(&mut [40000, 1, 2]);
     // the limits of a line, and the rounding of halves
     backward_of(&mut [268435456, -268435456]);
     backward_of(&mut [0, 268435457]);

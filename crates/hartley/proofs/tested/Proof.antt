@@ -16,10 +16,11 @@ use Rattle.hartley.specs.Calls.{firstLoud, unlessLoud, tested}
 use Rattle.hartley.proofs.tested.Statement.{statement}
 use Rattle.hartley.proofs.tested.Tie as tie
 
-module _ (low high : ℤ) (xs : List ℤ) {k : KindAnswer} (e : k ≡ kindOf (length xs)) where
+-- k is the kind that goes with len, and len is the number of cells
+module _ (low high : ℤ) (xs : List ℤ) (len : ℕ) {k : KindAnswer} (e : k ≡ kindOf len) (whole : len ≡ length xs) where
   after : (first : KindAnswer) → k ≡ first → unlessLoud (firstLoud low high xs) (length xs) first ≡ tested low high xs
   unfolding tested
-  after first g = ap (unlessLoud (firstLoud low high xs) (length xs)) (sym g ∙ e)
+  after first g = ap (unlessLoud (firstLoud low high xs) (length xs)) (sym g ∙ e ∙ ap kindOf whole)
 
   -- a length that is taken; the limits handed on are low and high, and the answer to them is the place
   module _ (kind : BlockKind) {l h : ℤ} {place : ℕ} (g : k ≡ Taken kind) (f : place ≡ firstLoud l h xs) (el : l ≡ low) (eh : h ≡ high) where
@@ -45,15 +46,15 @@ first-loud-requires : tie.Need-first-loud-requires
 first-loud-requires c κs = search needs
 
 returns : tie.Need-returns
-returns c = after _ _ _ (c .before .before .before .of-len .ensures) _ (c .before .refusal .given .1)
+returns c = after _ _ _ _ (c .before .before .before .of-len .ensures) (omega arith) _ (c .before .refusal .given .1)
 
 returns-2 : tie.Need-returns-2
 returns-2 c = let b = c .before .before .before in
-    loud _ _ _ (b .before .before .of-len .ensures) _ (b .kind .given .1) (c .before .first-loud .ensures) (search needs) (search needs) _ (omega arith) (omega arith)
+    loud _ _ _ _ (b .before .before .of-len .ensures) (omega arith) _ (b .kind .given .1) (c .before .first-loud .ensures) (search needs) (search needs) _ (omega arith) (omega arith)
 
 returns-3 : tie.Need-returns-3
 returns-3 c = let b = c .before .before .before in
-    quiet _ _ _ (b .before .before .of-len .ensures) _ (b .kind .given .1) (c .before .first-loud .ensures) (search needs) (search needs) (omega arith)
+    quiet _ _ _ _ (b .before .before .of-len .ensures) (omega arith) _ (b .kind .given .1) (c .before .first-loud .ensures) (search needs) (search needs) (omega arith)
 
 pub tested-spec : {M : Type 1} → statement M
 tested-spec =
