@@ -98,7 +98,7 @@ fn first_loud(cells: &[i64], low: i64, high: i64) -> usize
     i
 }
 
-// Permutes the 2^p cells and runs all levels on them.
+// Permutes the 2^p cells and runs all levels on them, with the cosines and sines that they need.
 fn transform(cells: &mut [i64], p: usize)
     requires { ⌜ Ready p (now cells) ⌝ }
     ensures { λ _. ⌜ now (cells .exit) ≡ forward p (now (cells .entry)) ⌝ }
@@ -107,16 +107,19 @@ fn transform(cells: &mut [i64], p: usize)
     let mut cosines = [0i64; BlockKind::LARGEST / 2];
     let mut sines = [0i64; BlockKind::LARGEST / 2];
     fill_half_turn(&mut cosines[..len / 2], &mut sines[..len / 2], len);
+    transform_by(cells, &cosines[..len / 2], &sines[..len / 2], p);
+}
+
+// The same by lent cosines and sines. A second list keeps the cells that a step reads.
+fn transform_by(cells: &mut [i64], cosines: &[i64], sines: &[i64], p: usize)
+    requires { ⌜ Ready p (now cells) × (now cosines ≡ overHalfTurn (tableCosine SCALE-DIGITS) (2 ^ p)) × (now sines ≡ overHalfTurn (tableSine SCALE-DIGITS) (2 ^ p)) ⌝ }
+    ensures { λ _. ⌜ now (cells .exit) ≡ forward p (now (cells .entry)) ⌝ }
+{
+    let len = cells.len();
     let mut kept = [0i64; BlockKind::LARGEST];
     copy(cells, &mut kept[..len]);
     permute(&kept[..len], cells, p);
-    run_levels(
-        cells,
-        &mut kept[..len],
-        &cosines[..len / 2],
-        &sines[..len / 2],
-        p,
-    );
+    run_levels(cells, &mut kept[..len], cosines, sines, p);
 }
 
 // The table's cosines and sines for a block of len cells: len / 2 each, 1,024 / len steps apart. The constant table is read here alone.

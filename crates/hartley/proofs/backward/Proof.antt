@@ -1,10 +1,9 @@
 -- `backward` is right because it does what `forward` does, on a spectrum, and then divides each cell by N with rounding.
 use borrow.Author.Needs.{needs}
-use mathlib.Core.Path.{_≡_, sym, _∙_, ap, ap₂}
-use mathlib.Core.List.{List, map}
+use mathlib.Core.Path.{_≡_, sym, _∙_, ap}
+use mathlib.Core.List.{map}
 use Prim.Native.Nat.{_^_}
 use native.Mathlib.Omega.{arith}
-use lib.IntN.{ℤ, pos, negℤ}
 use denote.Ref.{now}
 use Rattle.ints.specs.Quotient.{rounded}
 use Rattle.refusal.specs.declared.KindAnswer.{KindAnswer}
@@ -15,10 +14,6 @@ use Rattle.hartley.specs.Calls.{answerTo, cellsLeft, firstFault, tested,
 use Rattle.hartley.proofs.Taken.{taken-ready}
 use Rattle.hartley.proofs.backward.Statement.{statement}
 use Rattle.hartley.proofs.backward.Tie as tie
-
--- the limits of the tests are those of a spectrum
-limits : (xs : List ℤ) (l h : ℤ) {k : KindAnswer} → k ≡ tested l h xs → l ≡ negℤ (pos LOUDEST-LINE) → h ≡ pos LOUDEST-LINE → k ≡ testedSpectrum xs
-limits xs l h e el eh = e ∙ ap₂ (λ (l h : ℤ). tested l h xs) el eh
 
 -- what `tested` has found of the lent spectrum
 taken : (k : tie.After-kind) → testedSpectrum (now (k .before .before .before .before .args .cells)) ≡ Taken (k .kind .given .0 .0)
@@ -46,7 +41,7 @@ same-length : tie.Need-same-length
 same-length c = search needs
 
 returns : tie.Need-returns
-returns c = let e = sym (limits _ _ _ (c .before .before .before .tested .ensures) (search needs) (search needs)) ∙ c .before .refusal .given .1 in (sym (ap answerTo e), (sym (ap firstFault e), sym (ap (cellsLeft backward _) e)))
+returns c = let e = sym (c .before .before .before .tested .ensures) ∙ c .before .refusal .given .1 in (sym (ap answerTo e), (sym (ap firstFault e), sym (ap (cellsLeft backward _) e)))
 
 same-length-2 : tie.Need-same-length-2
 same-length-2 c = search needs
