@@ -18,7 +18,7 @@ pub record NoneAbove (b : ℕ) (xs : List ℤ) : Type 0 where
 pub record Ready (P : ℕ) (xs : List ℤ) : Type 0 where
   pub most : P ≤ 10
   pub long : length xs ≡ 2 ^ P
-  pub quiet : NoneAbove (LOUDEST-LINE) xs
+  pub quiet : NoneAbove LOUDEST-LINE xs
 
 -- a cosine, or a sine, over half a turn as a block of N cells needs it: N/2 values, 1,024 / N steps apart
 abbrev pub overHalfTurn : (ℕ → ℤ) → ℕ → List ℤ
@@ -31,7 +31,7 @@ pub record Runs (P : ℕ) (cells kept cosines sines : List ℤ) : Type 0 where
   pub as-long : length kept ≡ 2 ^ P
   pub at-cosines : cosines ≡ overHalfTurn (tableCosine SCALE-DIGITS) (2 ^ P)
   pub at-sines : sines ≡ overHalfTurn (tableSine SCALE-DIGITS) (2 ^ P)
-  pub quiet : (L : ℕ) → L < P → NoneAbove (LARGEST-CELL) (levelsAt SCALE-DIGITS L cells)
+  pub quiet : (L : ℕ) → L < P → NoneAbove LARGEST-CELL (levelsAt SCALE-DIGITS L cells)
 
 -- halves of n cells can be joined: line v takes entry v × stride of the two lists, whose neighbours are `apart` steps of the turn apart
 pub record Joins (n stride : ℕ) (cosines sines : List ℤ) : Type 0 where

@@ -207,7 +207,7 @@ fn join_level(
     n: usize,
     stride: usize,
 )
-    requires { ⌜ Joins n stride (now cosines) (now sines) × NoneAbove (LARGEST-CELL) (now kept) × (length (now kept) % (2 * n) ≡ 0) × (length (now cells) ≡ length (now kept)) ⌝ }
+    requires { ⌜ Joins n stride (now cosines) (now sines) × NoneAbove LARGEST-CELL (now kept) × (length (now kept) % (2 * n) ≡ 0) × (length (now cells) ≡ length (now kept)) ⌝ }
     ensures { λ _. ⌜ now (cells .exit) ≡ levelAt SCALE-DIGITS n (now (kept .entry)) ⌝ }
 {
     let mut base = 0;

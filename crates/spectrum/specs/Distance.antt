@@ -18,8 +18,8 @@ directSum F xs v = let N = length xs in sum N (λ t. cell xs t *ℤ cas F (v * t
 abbrev pub ceiling : ℕ → ℕ → ℕ
 ceiling a b = (a + (b - 1)) / b
 
--- The distance for 2^P samples of magnitude M at most, at scale q (in the words of document 02, Item 6): 0 for P up to 2; then 5/2 of the one before, rounded up, plus half the
--- length times M over q, rounded up, plus 1.
+-- The distance for 2^P samples of magnitude M at most, at scale q, in the words of document 02, Item 6: 0 for P up to 2; then 5/2 of the one
+-- before, rounded up, plus half the length times M over q, rounded up, plus 1.
 unfoldable pub bound : ℕ → ℕ → ℕ → ℕ
 bound q M zero = 0
 bound q M (suc zero) = 0

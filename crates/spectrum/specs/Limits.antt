@@ -10,7 +10,8 @@ LOUDEST-SAMPLE = 32768
 abbrev pub LOUDEST-LINE : ℕ
 LOUDEST-LINE = 2 ^ 28
 
--- Room in 64 bits, which document 01 leaves open: no cell before a level is larger (`forward-room` in proofs/Demand3), and so no sum of two products.
+-- Room in 64 bits, which document 01 leaves open: no cell before a level is above the first (`forward-room` in proofs/Demand3), and so no sum of
+-- two products above the second.
 abbrev pub LARGEST-CELL : ℕ
 LARGEST-CELL = 2 ^ 40
 
