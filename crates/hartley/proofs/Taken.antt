@@ -70,4 +70,4 @@ taken-quiet a b m xs kind ha hb e = quiet a b m ha hb xs (still-taken _ (length 
 -- a block that is taken within 2^28 is ready for the levels
 pub taken-ready : (a b : ℕ) (xs : List ℤ) (kind : BlockKind) → a ≤ LOUDEST-LINE → b ≤ LOUDEST-LINE → tested (negℤ (pos a)) (pos b) xs ≡ Taken kind → Ready (kind .p) xs
 taken-ready a b xs kind ha hb e = let k = taken-kind (negℤ (pos a)) (pos b) xs kind e in
-    record { most = k .most; long = k .cells; quiet = record { size = taken-quiet a b (LOUDEST-LINE) xs kind ha hb e } }
+    record { most = k .most; long = k .cells; quiet = record { size = taken-quiet a b LOUDEST-LINE xs kind ha hb e } }

@@ -32,7 +32,7 @@ enum-known-kind : tie.Need-enum-known-kind
 enum-known-kind c = search needs
 
 transform-requires : tie.Need-transform-requires
-transform-requires c κs = taken-ready (LOUDEST-LINE) (LOUDEST-LINE) _ _ (omega arith) (omega arith) (taken (c .before .before))
+transform-requires c κs = taken-ready LOUDEST-LINE LOUDEST-LINE _ _ (omega arith) (omega arith) (taken (c .before .before))
 
 divide-requires : tie.Need-divide-requires
 divide-requires c κs = search needs

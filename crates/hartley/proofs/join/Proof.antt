@@ -49,11 +49,11 @@ of-second c = of-first (c .before .before)
 read-small : (z : ℤ) (b : ℕ) → b < 2 ^ 63 → natAbs z ≤ b → natAbs (toZ w64 (ofZ w64 z)) ≤ b
 read-small z b k h = rw (reads-back z b k h) h
 
-read-cell : (xs : List ℤ) (i : ℕ) → NoneAbove (LARGEST-CELL) xs → natAbs (toZ w64 (ofZ w64 (cell xs i))) ≤ LARGEST-CELL
-read-cell xs i h = read-small (cell xs i) (LARGEST-CELL) (omega arith) (h .size i)
+read-cell : (xs : List ℤ) (i : ℕ) → NoneAbove LARGEST-CELL xs → natAbs (toZ w64 (ofZ w64 (cell xs i))) ≤ LARGEST-CELL
+read-cell xs i h = read-small (cell xs i) LARGEST-CELL (omega arith) (h .size i)
 
-cell-back : (xs : List ℤ) (i : ℕ) → NoneAbove (LARGEST-CELL) xs → toZ w64 (ofZ w64 (cell xs i)) ≡ cell xs i
-cell-back xs i h = reads-back (cell xs i) (LARGEST-CELL) (omega arith) (h .size i)
+cell-back : (xs : List ℤ) (i : ℕ) → NoneAbove LARGEST-CELL xs → toZ w64 (ofZ w64 (cell xs i)) ≡ cell xs i
+cell-back xs i h = reads-back (cell xs i) LARGEST-CELL (omega arith) (h .size i)
 
 minus : (z : ℤ) → natAbs z ≤ LARGEST-SUM → natAbs (pos 0 -ℤ z) ≤ LARGEST-SUM
 minus z h = omega (arith, abs-minus (pos 0) z)
@@ -69,7 +69,7 @@ here c = let l = c .before .loop in places (c .before .before .pre .0) (l .v) (l
 sum-read : (c : tie.After-sum-of-products Inv-loop μ-loop) → let i = of-sum c in let s = i .before .before .args in let l = i .before .loop in
     toZ w64 (ofZ w64 (c .sum-of-products .result)) ≡ cell (now (s .b)) (l .v) *ℤ cell (now (s .cosines)) (l .entry) +ℤ cell (now (s .b)) (l .mirror) *ℤ cell (now (s .sines)) (l .entry)
 sum-read c = let i = (of-sum c) in let s = i .before .before .args in let l = i .before .loop in let q = i .before .before .pre in let p = here i in
-    reads-back (c .sum-of-products .result) (LARGEST-SUM) (omega arith) (c .sum-of-products .ensures .1) ∙ c .sum-of-products .ensures .0
+    reads-back (c .sum-of-products .result) LARGEST-SUM (omega arith) (c .sum-of-products .ensures .1) ∙ c .sum-of-products .ensures .0
     ∙ rw (
       cell-back (now (s .b)) (l .v) (q .1 .b-quiet),
       cell-back (now (s .b)) (l .mirror) (q .1 .b-quiet),
@@ -90,7 +90,7 @@ second-read c = let i = (of-second c) in let s = i .before .before .args in let 
     let z = c .before .before .before .before .sum-of-products in let y = toZ w64 (ofZ w64 (z .result)) in
     toZ-ofZ (sfits-of (c .plus-quotient2 .ok)) ∙ c .plus-quotient2 .ensures
     ∙ ap₂ (λ (a y : ℤ). a +ℤ rounded SCALE y) (cell-back (now (s .a)) (l .v) (q .1 .a-quiet))
-    (reads-back (pos 0 -ℤ y) (LARGEST-SUM) (omega arith) (minus y (read-small (z .result) (LARGEST-SUM) (omega arith) (z .ensures .1))) ∙ minus-is y ∙ ap negℤ (sum-read (c .before .before .before .before)))
+    (reads-back (pos 0 -ℤ y) LARGEST-SUM (omega arith) (minus y (read-small (z .result) LARGEST-SUM (omega arith) (z .ensures .1))) ∙ minus-is y ∙ ap negℤ (sum-read (c .before .before .before .before)))
     ∙ sym (line-in-second-half (q .0) (cell (now (s .a))) (cell (now (s .b))) (l .v) (l .mirror) (l .entry) (here i) (l .inv .1) (l .inv .2))
 
 -- line 0 is its own mirror
@@ -148,7 +148,7 @@ shared-slice-copy-out-plus-quotient c = let p = here (of-sum c) in search needs
 
 plus-quotient-requires : tie.Need-plus-quotient-requires Inv-loop μ-loop
 plus-quotient-requires c κs = let s = (of-sum (c .before)) .before .before in let z = c .before .sum-of-products in
-    (read-cell (now (s .args .a)) ((of-sum (c .before)) .before .loop .v) (s .pre .1 .a-quiet), read-small (z .result) (LARGEST-SUM) (omega arith) (z .ensures .1))
+    (read-cell (now (s .args .a)) ((of-sum (c .before)) .before .loop .v) (s .pre .1 .a-quiet), read-small (z .result) LARGEST-SUM (omega arith) (z .ensures .1))
 
 mul-t22 : tie.Need-mul-t22 Inv-loop μ-loop
 mul-t22 c = let p = here (of-first c) in search needs
@@ -165,12 +165,12 @@ shared-slice-copy-out-plus-quotient-2 c = let p = here (of-first c) in search ne
 
 sub-plus-quotient : tie.Need-sub-plus-quotient Inv-loop μ-loop
 sub-plus-quotient c = let z = c .before .before .before .sum-of-products in let y = toZ w64 (ofZ w64 (z .result)) in
-    fits (pos 0 -ℤ y) (omega (arith, minus y (read-small (z .result) (LARGEST-SUM) (omega arith) (z .ensures .1))))
+    fits (pos 0 -ℤ y) (omega (arith, minus y (read-small (z .result) LARGEST-SUM (omega arith) (z .ensures .1))))
 
 plus-quotient-requires-2 : tie.Need-plus-quotient-requires-2 Inv-loop μ-loop
 plus-quotient-requires-2 c κs = let s = (of-first (c .before)) .before .before in let z = c .before .before .before .sum-of-products in let y = toZ w64 (ofZ w64 (z .result)) in (
   read-cell (now (s .args .a)) ((of-first (c .before)) .before .loop .v) (s .pre .1 .a-quiet),
-  read-small (pos 0 -ℤ y) (LARGEST-SUM) (omega arith) (minus y (read-small (z .result) (LARGEST-SUM) (omega arith) (z .ensures .1))),
+  read-small (pos 0 -ℤ y) LARGEST-SUM (omega arith) (minus y (read-small (z .result) LARGEST-SUM (omega arith) (z .ensures .1))),
 )
 
 add-t13 : tie.Need-add-t13 Inv-loop μ-loop

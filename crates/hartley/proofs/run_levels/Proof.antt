@@ -97,7 +97,7 @@ join-level-requires : tie.Need-join-level-requires Inv-loop μ-loop
 join-level-requires c κs = let l = (copied c) .before .loop in let s = (copied c) .before .before in let p = s .args .p in let e = c .before .before .before .copy .ensures in
     let long = ap length (l .inv .3) ∙ as-many _ _ ∙ s .pre .long in (
       joins p (l .level) (s .pre .most) (omega arith) (l .n) (l .stride) _ _ (l .inv .1) (l .inv .2) (s .pre .at-cosines) (s .pre .at-sines),
-      subst (NoneAbove (LARGEST-CELL)) (sym (e ∙ l .inv .3)) (s .pre .quiet (l .level) (omega arith)),
+      subst (NoneAbove LARGEST-CELL) (sym (e ∙ l .inv .3)) (s .pre .quiet (l .level) (omega arith)),
       rw (ap length e ∙ long) (whole-pairs p (l .level) (l .n) (omega arith) (l .inv .1)),
       sym (ap length e),
     )
