@@ -17,7 +17,7 @@ use Rattle.refusal.specs.BlockKinds.{SCALE, SCALE-DIGITS}
 use Rattle.cosine.specs.Cosine.{quarterTable}
 use Rattle.cosine.proofs.Turn.{cosine-half, sine-half}
 use Rattle.cosine.proofs.TableNear.{table-cosine-size, table-sine-size, table-end}
-use Rattle.spectrum.specs.Levels.{cell}
+use Rattle.block.specs.Cells.{cell}
 use Rattle.spectrum.specs.Spectrum.{tableCosine, tableSine, lineAt}
 use Rattle.spectrum.proofs.Pairs.{first-half, second-half}
 use Rattle.ints.specs.Quotient.{rounded}

@@ -1,3 +1,3 @@
 pub mod Halves
-pub mod Taken
 pub mod Counting
+pub mod Ready

@@ -6,9 +6,9 @@ use lib.IntN.{ℤ, natAbs}
 use lib.ListN.{length}
 use Rattle.ints.specs.Tabulate.{tabulate}
 use Rattle.refusal.specs.BlockKinds.{SCALE-DIGITS, TURN}
-use Rattle.spectrum.specs.Levels.{cell}
+use Rattle.block.specs.Cells.{cell, LOUDEST-LINE}
 use Rattle.spectrum.specs.Spectrum.{tableCosine, tableSine, lineAt, levelsAt}
-use Rattle.spectrum.specs.Limits.{LOUDEST-LINE, LARGEST-CELL}
+use Rattle.spectrum.specs.Limits.{LARGEST-CELL}
 
 -- no cell is above b in magnitude
 pub record NoneAbove (b : ℕ) (xs : List ℤ) : Type 0 where

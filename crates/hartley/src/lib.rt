@@ -1,47 +1,34 @@
 // The engine: the forward and the backward spectrum of a block, in its own cells (document 01, Levels).
+use block::Answer;
 use refusal::BlockKind;
 use refusal::KindAnswer;
-use refusal::Refusal;
 ghost use mathlib.Core.Path.{_≡_};
-ghost use mathlib.Core.List.{map};
+ghost use mathlib.Core.List.{[], map};
 ghost use Prim.Native.Nat.{ℕ, _+_, _*_, _/_, _%_, _^_, _≤_, _<_};
 ghost use lib.IntN.{_+ℤ_, _*ℤ_, natAbs};
 ghost use lib.ListN.{length};
 ghost use Rattle.ints.specs.Quotient.{rounded};
 ghost use Rattle.ints.specs.Sum.{sum};
 ghost use Rattle.refusal.specs.BlockKinds.{SCALE, SCALE-DIGITS};
-ghost use Rattle.spectrum.specs.Levels.{cell, permuted, reversed};
+ghost use Rattle.block.specs.Cells.{cell};
+ghost use Rattle.block.specs.Tests.{testedSamples, testedSpectrum};
+ghost use Rattle.block.specs.Answers.{answerTo, cellsLeft, firstFault, numbers};
+ghost use Rattle.block.specs.declared.Answer.the-variants.{Done};
+ghost use Rattle.spectrum.specs.Levels.{permuted, reversed};
 ghost use Rattle.spectrum.specs.Spectrum.{tableCosine, tableSine, levelAt, levelsAt, forward, backward};
 ghost use Rattle.spectrum.specs.Distance.{WithinE};
 ghost use Rattle.spectrum.specs.Limits.{LARGEST-CELL, LARGEST-SUM};
-ghost use Rattle.hartley.specs.Calls.{answerTo, cellsLeft, firstFault, firstLoud, numbers, tested, testedSamples, testedSpectrum};
 ghost use Rattle.hartley.specs.Workers.{joinedHalves, Joins, NoneAbove, Pair, Ready, Runs, overHalfTurn};
-ghost use Rattle.hartley.specs.declared.Answer.the-variants.{Done};
-
-// The least sample.
-const LEAST_SAMPLE: i64 = -32768;
-
-// The largest sample.
-const LARGEST_SAMPLE: i64 = 32767;
-
-// The largest line of a spectrum, to either side: 2^28.
-const LARGEST_LINE: i64 = 268435456;
-
-// What a call on a block answers.
-pub enum Answer {
-    Done,
-    Refused(Refusal),
-}
 
 // The forward spectrum of a block of samples, which it replaces.
 pub fn forward(cells: &mut [i64]) -> Answer
     ensures answer { λ r. ⌜ r ≡ answerTo (testedSamples (now (cells .entry))) ⌝ }
     ensures numbers { λ r. ⌜ numbers r ≡ firstFault (testedSamples (now (cells .entry))) ⌝ }
-    ensures cells { λ _. ⌜ now (cells .exit) ≡ cellsLeft forward (now (cells .entry)) (testedSamples (now (cells .entry))) ⌝ }
+    ensures cells { λ _. ⌜ now (cells .exit) ≡ cellsLeft (λ P. forward P (now (cells .entry))) (now (cells .entry)) (testedSamples (now (cells .entry))) ⌝ }
     ensures distance { λ r. ⌜ (r ≡ Done → (P : ℕ) × (length (now (cells .entry)) ≡ 2 ^ P) × WithinE P (now (cells .entry)) (now (cells .exit))) ⌝ }
     ensures first_line { λ r. ⌜ (r ≡ Done → cell (now (cells .exit)) 0 ≡ sum (length (now (cells .entry))) (cell (now (cells .entry)))) ⌝ }
 {
-    match tested(cells, LEAST_SAMPLE, LARGEST_SAMPLE) {
+    match block::tested_samples(cells) {
         KindAnswer::Refused(refusal) => Answer::Refused(refusal),
         KindAnswer::Taken(kind) => {
             transform(cells, kind.p);
@@ -52,11 +39,11 @@ pub fn forward(cells: &mut [i64]) -> Answer
 
 // The same steps on a lent spectrum, then each cell divided by their number with rounding, in the spectrum's place.
 pub fn backward(cells: &mut [i64]) -> Answer
-    ensures answer { λ r. ⌜ r ≡ answerTo (testedSpectrum (now (cells .entry))) ⌝ }
-    ensures numbers { λ r. ⌜ numbers r ≡ firstFault (testedSpectrum (now (cells .entry))) ⌝ }
-    ensures cells { λ _. ⌜ now (cells .exit) ≡ cellsLeft backward (now (cells .entry)) (testedSpectrum (now (cells .entry))) ⌝ }
+    ensures answer { λ r. ⌜ r ≡ answerTo (testedSpectrum [] (now (cells .entry))) ⌝ }
+    ensures numbers { λ r. ⌜ numbers r ≡ firstFault (testedSpectrum [] (now (cells .entry))) ⌝ }
+    ensures cells { λ _. ⌜ now (cells .exit) ≡ cellsLeft (λ P. backward P (now (cells .entry))) (now (cells .entry)) (testedSpectrum [] (now (cells .entry))) ⌝ }
 {
-    match tested(cells, -LARGEST_LINE, LARGEST_LINE) {
+    match block::tested_spectrum(cells, &[]) {
         KindAnswer::Refused(refusal) => Answer::Refused(refusal),
         KindAnswer::Taken(kind) => {
             transform(cells, kind.p);
@@ -64,38 +51,6 @@ pub fn backward(cells: &mut [i64]) -> Answer
             Answer::Done
         }
     }
-}
-
-// The block's kind if it passes the tests 1 and 3 in turn, or the first fault.
-fn tested(cells: &[i64], low: i64, high: i64) -> KindAnswer
-    ensures { λ r. ⌜ r ≡ tested low high (now (cells .entry)) ⌝ }
-{
-    match BlockKind::of_len(cells.len()) {
-        KindAnswer::Refused(refusal) => KindAnswer::Refused(refusal),
-        KindAnswer::Taken(kind) => {
-            let place = first_loud(cells, low, high);
-            if place < cells.len() {
-                KindAnswer::Refused(Refusal::Loud(place))
-            } else {
-                KindAnswer::Taken(kind)
-            }
-        }
-    }
-}
-
-// The place of the first cell outside low to high, or the number of cells where there is none.
-fn first_loud(cells: &[i64], low: i64, high: i64) -> usize
-    ensures { λ r. ⌜ r ≡ firstLoud low high (now (cells .entry)) ⌝ }
-{
-    let mut i = 0;
-    while i < cells.len() {
-        let x = cells[i];
-        if x < low || high < x {
-            return i;
-        }
-        i += 1;
-    }
-    i
 }
 
 // Permutes the 2^p cells and runs all levels on them, with the cosines and sines that they need.

@@ -1,5 +1,5 @@
 // The worked samples of document 01, run. What is printed is held to the file stdout, which was worked by hand from the document.
-use hartley::Answer;
+use block::Answer;
 use libc::STDOUT_FILENO;
 use refusal::BlockKind;
 use refusal::KindAnswer;

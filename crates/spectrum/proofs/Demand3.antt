@@ -16,9 +16,10 @@ use Rattle.ints.specs.Tabulate.{tabulate}
 use Rattle.ints.proofs.Tables.{alongside, alongside-at}
 use Rattle.refusal.specs.BlockKinds.{SCALE, SCALE-DIGITS}
 use Rattle.cosine.specs.Cosine.{fine}
-use Rattle.spectrum.specs.Levels.{cell, permuted}
+use Rattle.block.specs.Cells.{cell, LOUDEST-SAMPLE, LOUDEST-LINE}
+use Rattle.spectrum.specs.Levels.{permuted}
 use Rattle.spectrum.specs.Spectrum.{tableCosine, tableSine, levelsAt, forwardAt, forward}
-use Rattle.spectrum.specs.Limits.{LOUDEST-SAMPLE, LOUDEST-LINE, LARGEST-CELL}
+use Rattle.spectrum.specs.Limits.{LARGEST-CELL}
 use Rattle.spectrum.specs.Distance.{bound, directSum, E, WithinE}
 use Rattle.spectrum.proofs.Nearest.{LARGEST-M, Nearest, nearest-at}
 use Rattle.spectrum.proofs.Distance.{distance}

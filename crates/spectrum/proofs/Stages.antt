@@ -11,7 +11,8 @@ use lib.ListN.{length}
 use lib.Pow.{pow-pos}
 use Rattle.ints.proofs.Powers.{two-pow}
 use Rattle.ints.proofs.Tables.{getD-tabulate, length-tabulate}
-use Rattle.spectrum.specs.Levels.{cell, reversed, permuted, line, joined, level, levels}
+use Rattle.block.specs.Cells.{cell}
+use Rattle.spectrum.specs.Levels.{reversed, permuted, line, joined, level, levels}
 
 pub length-permuted : (P : ℕ) (xs : List ℤ) → length (permuted P xs) ≡ 2 ^ P
 unfolding permuted

@@ -6,7 +6,7 @@ use lib.ListN.{length, getD}
 use Rattle.ints.specs.Sum.{sum}
 use Rattle.refusal.specs.BlockKinds.{TURN}
 use Rattle.cosine.specs.Cosine.{cas, fine}
-use Rattle.spectrum.specs.Levels.{cell}
+use Rattle.block.specs.Cells.{cell}
 
 -- line v of the direct sum of the N samples xs: the sum over t from 0 to N − 1 of sample(t) × cas(v × t × 1,024 / N mod 1,024),
 -- with the cas of the cosines F; document 01's are the fine ones

@@ -1,14 +1,12 @@
--- Document 01, Levels. Cells are a list, the cells of a block or of a spectrum; `cell xs i` is cell i.
--- Example: with the cosines and the rounding in force, levels 1 and 2 make {1, 3, 2, 4} into {10, −4, −2, 0} (the starred rows of samples).
+-- Document 01, Levels.
+-- Example: with the cosines and the rounding in force, levels 1 and 2 make {1, 3, 2, 4} into {10, −4, −2, 0} (the starred rows).
 use mathlib.Core.List.{List}
 use Prim.Native.Nat.{ℕ, zero, suc, _+_, _*_, _-_, _/_, _%_, _^_}
-use lib.IntN.{ℤ, pos, _+ℤ_, _*ℤ_}
-use lib.ListN.{length, getD}
+use lib.IntN.{ℤ, _+ℤ_, _*ℤ_}
+use lib.ListN.{length}
 use Rattle.ints.specs.Tabulate.{tabulate}
 use Rattle.refusal.specs.BlockKinds.{TURN}
-
-abbrev pub cell : List ℤ → ℕ → ℤ
-cell xs i = getD xs i (pos 0)
+use Rattle.block.specs.Cells.{cell}
 
 -- ---- 1. Permute
 

@@ -9,7 +9,7 @@ use lib.ListN.{length, set, length-set}
 use lib.Seq.{ext-getD}
 use denote.Ref.{now}
 use Rattle.ints.proofs.Filling.{Filled, filled-next}
-use Rattle.spectrum.specs.Levels.{cell}
+use Rattle.block.specs.Cells.{cell}
 use Rattle.hartley.proofs.copy.Statement.{statement}
 use Rattle.hartley.proofs.copy.Tie as tie
 

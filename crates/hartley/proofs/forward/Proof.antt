@@ -1,7 +1,7 @@
--- `forward` is right because `tested` finds the first fault or none, and `transform` leaves the spectrum, of which demand 3 and line 0 are laws.
+-- `forward` is right because `tested_samples` finds the first fault or none, and `transform` leaves the spectrum, of which demand 3 and line 0 are laws.
 use borrow.Author.Needs.{needs}
 use mathlib.Core.Path.{_≡_, sym, _∙_, ap}
-use mathlib.Core.List.{List}
+use mathlib.Core.List.{List, []}
 use Prim.Native.Nat.{ℕ, _^_}
 use native.Mathlib.Omega.{arith}
 use lib.IntN.{ℤ}
@@ -12,15 +12,16 @@ use Rattle.refusal.specs.declared.BlockKind.{BlockKind}
 use Rattle.refusal.specs.declared.KindAnswer.{KindAnswer}
 use Rattle.refusal.specs.declared.KindAnswer.the-variants.{Taken, Refused as Untaken}
 use Rattle.refusal.specs.declared.Refusal.{Refusal}
-use Rattle.spectrum.specs.Levels.{cell}
+use Rattle.block.specs.Cells.{cell, LOUDEST-SAMPLE}
+use Rattle.block.specs.Tests.{testedSamples}
+use Rattle.block.specs.Answers.{answerTo, cellsLeft, firstFault, numbers}
+use Rattle.block.specs.declared.Answer.{Answer}
+use Rattle.block.specs.declared.Answer.the-variants.{Done, Refused}
+use Rattle.block.proofs.Taken.{taken-kind, taken-quiet}
 use Rattle.spectrum.specs.Spectrum.{forward}
 use Rattle.spectrum.specs.Distance.{WithinE}
-use Rattle.spectrum.specs.Limits.{LOUDEST-SAMPLE}
 use Rattle.spectrum.proofs.Demand3.{demand-3, forward-first}
-use Rattle.hartley.specs.Calls.{answerTo, cellsLeft, firstFault, numbers, testedSamples}
-use Rattle.hartley.specs.declared.Answer.{Answer}
-use Rattle.hartley.specs.declared.Answer.the-variants.{Done, Refused}
-use Rattle.hartley.proofs.Taken.{taken-kind, taken-quiet, taken-ready}
+use Rattle.hartley.proofs.Ready.{taken-ready}
 use Rattle.hartley.proofs.forward.Statement.{statement}
 use Rattle.hartley.proofs.forward.Tie as tie
 
@@ -38,24 +39,24 @@ module _ (xs ys : List ℤ) (refusal : Refusal) {k : KindAnswer} (e : k ≡ test
   refused-numbers : numbers (Refused refusal) ≡ firstFault (testedSamples xs)
   refused-numbers = ap firstFault fault
 
-  refused-cells : (zs : List ℤ) → zs ≡ xs → zs ≡ cellsLeft forward xs (testedSamples xs)
-  refused-cells zs kept = kept ∙ ap (cellsLeft forward xs) fault
+  refused-cells : (zs : List ℤ) → zs ≡ xs → zs ≡ cellsLeft (λ P. forward P xs) xs (testedSamples xs)
+  refused-cells zs kept = kept ∙ ap (cellsLeft (λ P. forward P xs) xs) fault
 
 -- what holds of the spectrum of a block that is taken
 module _ (xs : List ℤ) (kind : BlockKind) (e : testedSamples xs ≡ Taken kind) where
   near : (P : ℕ) × (length xs ≡ 2 ^ P) × WithinE P xs (forward (kind .p) xs)
-  near = let k = taken-kind _ _ xs kind e in
-      (kind .p, k .cells, demand-3 (kind .p) (k .most) xs (k .cells) (taken-quiet 32768 32767 LOUDEST-SAMPLE xs kind (omega arith) (omega arith) e))
+  near = let k = taken-kind _ _ [] xs kind e in
+      (kind .p, k .cells, demand-3 (kind .p) (k .most) xs (k .cells) (taken-quiet 32768 32767 LOUDEST-SAMPLE [] xs kind (omega arith) (omega arith) e))
 
   first : cell (forward (kind .p) xs) 0 ≡ sum (length xs) (cell xs)
-  first = forward-first (kind .p) xs ∙ ap (λ (n : ℕ). sum n (cell xs)) (sym (taken-kind _ _ xs kind e .cells))
+  first = forward-first (kind .p) xs ∙ ap (λ (n : ℕ). sum n (cell xs)) (sym (taken-kind _ _ [] xs kind e .cells))
 
--- what `tested` has found of the lent block
+-- what `tested_samples` has found of the lent block
 taken : (k : tie.After-kind) → testedSamples (now (k .before .before .before .before .args .cells)) ≡ Taken (k .kind .given .0 .0)
-taken k = sym (k .before .before .tested .ensures) ∙ k .kind .given .1
+taken k = sym (k .before .before .tested-samples .ensures) ∙ k .kind .given .1
 
-tested-requires : tie.Need-tested-requires
-tested-requires c κs = search needs
+tested-samples-requires : tie.Need-tested-samples-requires
+tested-samples-requires c κs = search needs
 
 enum-known-refusal : tie.Need-enum-known-refusal
 enum-known-refusal c = search needs
@@ -64,13 +65,13 @@ enum-known-kind : tie.Need-enum-known-kind
 enum-known-kind c = search needs
 
 transform-requires : tie.Need-transform-requires
-transform-requires c κs = taken-ready 32768 32767 _ _ (omega arith) (omega arith) (taken (c .before .before))
+transform-requires c κs = taken-ready 32768 32767 [] _ _ (omega arith) (omega arith) (taken (c .before .before))
 
 same-length : tie.Need-same-length
 same-length c = search needs
 
 returns : tie.Need-returns
-returns c = let r = c .before .refusal .given .0 .0 in let e = c .before .before .before .tested .ensures in let g = c .before .refusal .given .1 in
+returns c = let r = c .before .refusal .given .0 .0 in let e = c .before .before .before .tested-samples .ensures in let g = c .before .refusal .given .1 in
     (refused-answer _ _ r e g (search needs), (refused-numbers _ _ r e g (search needs), (refused-cells _ _ r e g (search needs) _ (search needs), (refused-not-done r, refused-not-done r))))
 
 same-length-2 : tie.Need-same-length-2
@@ -79,13 +80,13 @@ same-length-2 c = search needs
 returns-2 : tie.Need-returns-2
 returns-2 c = let k = c .before .before .before .before in let xs = now (k .before .before .before .before .args .cells) in let kind = k .kind .given .0 .0 in
     let e = taken k in let t = c .before .transform .ensures in
-    (sym (ap answerTo e), (sym (ap firstFault e), (t ∙ sym (ap (cellsLeft forward xs) e), (λ h. rw t (near xs kind e), λ h. ap (λ (ys : List ℤ). cell ys 0) t ∙ first xs kind e))))
+    (sym (ap answerTo e), (sym (ap firstFault e), (t ∙ sym (ap (cellsLeft (λ P. forward P xs) xs) e), (λ h. rw t (near xs kind e), λ h. ap (λ (ys : List ℤ). cell ys 0) t ∙ first xs kind e))))
 
 pub forward-spec : {M : Type 1} → statement M
 forward-spec =
     tie.close
     (tie.spec
-    tested-requires
+    tested-samples-requires
     enum-known-refusal
     enum-known-kind
     transform-requires

@@ -16,7 +16,7 @@ use Rattle.ints.proofs.Abs.{abs-minus}
 use Rattle.ints.proofs.Fit.{fits, reads-back}
 use Rattle.ints.proofs.Filling.{Filled, filled-all}
 use Rattle.refusal.specs.BlockKinds.{SCALE, SCALE-DIGITS}
-use Rattle.spectrum.specs.Levels.{cell}
+use Rattle.block.specs.Cells.{cell}
 use Rattle.spectrum.specs.Spectrum.{lineAt}
 use Rattle.spectrum.specs.Limits.{LARGEST-CELL, LARGEST-SUM}
 use Rattle.ints.specs.Quotient.{rounded}

@@ -12,7 +12,8 @@ use denote.Ref.{now}
 use Rattle.ints.proofs.Tables.{getD-tabulate, length-tabulate}
 use Rattle.ints.proofs.Filling.{Filled, filled-all}
 use Rattle.ints.proofs.Parts.{part-at, length-part, part-all, filled-part}
-use Rattle.spectrum.specs.Levels.{cell, level}
+use Rattle.block.specs.Cells.{cell}
+use Rattle.spectrum.specs.Levels.{level}
 use Rattle.spectrum.specs.Spectrum.{tableCosine, tableSine, lineAt, joinedAt}
 use Rattle.spectrum.proofs.Stages.{line-cong}
 use Rattle.spectrum.proofs.Pairs.{in-pair}

@@ -11,7 +11,8 @@ use lib.Pow.{pow-mono}
 use mir.Facts.{toZ-ofZ}
 use denote.Ref.{now}
 use Rattle.ints.proofs.Filling.{Filled, filled-next, filled-all}
-use Rattle.spectrum.specs.Levels.{cell, reversed, permuted}
+use Rattle.block.specs.Cells.{cell}
+use Rattle.spectrum.specs.Levels.{reversed, permuted}
 use Rattle.spectrum.proofs.Reversal.{reversed-zero, reversed-lt}
 use Rattle.hartley.proofs.permute.Statement.{statement}
 use Rattle.hartley.proofs.permute.Tie as tie

@@ -17,10 +17,10 @@ use mir.Val.{toZ, ofZ}
 use denote.Ref.{now}
 use Rattle.ints.proofs.Ring.{quotes}
 use Rattle.ints.proofs.Order.{_≼_, _≺_, le-fact, lt-fact, negativePart, positivePart}
-use Rattle.spectrum.specs.Levels.{cell}
-use Rattle.hartley.specs.Calls.{firstLoud}
-use Rattle.hartley.proofs.first_loud.Statement.{statement}
-use Rattle.hartley.proofs.first_loud.Tie as tie
+use Rattle.block.specs.Cells.{cell}
+use Rattle.block.specs.Tests.{firstLoud}
+use Rattle.block.proofs.first_loud.Statement.{statement}
+use Rattle.block.proofs.first_loud.Tie as tie
 
 -- ---- the tests on integers as facts of `omega`, each integer being the difference of two naturals. `test-at-most` is for a wrong program,
 -- one that tests by `<=`: its fault is then an order that fails.

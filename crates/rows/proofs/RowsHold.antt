@@ -5,7 +5,7 @@ use lib.Dec.{T}
 use lib.Ieee.Fits.{and-l, and-r}
 use Rattle.ints.proofs.Order.{equal, equal-is}
 use Rattle.ints.proofs.Tables.{same, same-list}
-use Rattle.samples.specs.Rows.{Row, rows, Hold}
+use Rattle.rows.specs.Rows.{Row, rows, Hold}
 
 test : List Row → Bool
 test [] = true

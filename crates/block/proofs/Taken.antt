@@ -1,0 +1,101 @@
+-- What the tests tell: a block that is taken has the length of its kind, no cell outside the limits and outputs that fit; and a block of
+-- which all that holds is taken.
+-- Example: `taken-quiet 32768 32767 32768 [] xs kind (omega arith) (omega arith) e i : natAbs (cell xs i) ≤ 32768`, with e : testedSamples xs ≡ Taken kind.
+use mathlib.Core.Path.{_≡_, refl, _∙_, ap}
+use mathlib.Core.Bool.{Bool, true, false, cond, _||_}
+use mathlib.Core.List.{List, [], _∷_}
+use Prim.Native.Nat.{ℕ, zero, suc, _+_, _/_, _≤_}
+use native.Mathlib.Omega.{arith}
+use borrow.Author.Tests.{le-ltb, ltb-false}
+use lib.Dec.{T, ltb}
+use lib.IntN.{ℤ, pos, negℤ, natAbs}
+use lib.ListN.{length}
+use lib.Signed.{ltZ, ltZ-yes, ltZ-no, clashℤ}
+use Rattle.ints.proofs.Ring.{quotes}
+use Rattle.ints.proofs.Order.{_≼_, le-fact}
+use Rattle.ints.proofs.Abs.{abs-fact, abs-lower, abs-upper}
+use Rattle.refusal.specs.declared.BlockKind.{BlockKind}
+use Rattle.refusal.specs.declared.KindAnswer.{KindAnswer}
+use Rattle.refusal.specs.declared.KindAnswer.the-variants.{Taken, Refused}
+use Rattle.refusal.specs.declared.Line.{Line}
+use Rattle.refusal.specs.declared.Refusal.{Refusal}
+use Rattle.refusal.specs.declared.Refusal.the-variants.{Misfit, Loud, Line as Beyond}
+use Rattle.refusal.specs.BlockKinds.{kindOf}
+use Rattle.refusal.proofs.Lengths.{Kind-length, kind-length, kind-given}
+use Rattle.block.specs.Cells.{cell}
+use Rattle.block.specs.Tests.{unless, misfit, firstLoud, tested, testedSpectrum, testedLine}
+
+-- ---- a list with no loud cell
+
+neither : (t u : Bool) (n i : ℕ) → suc n ≤ cond (t || u) 0 (suc i) → (t ≡ false) × (u ≡ false) × (n ≤ i)
+neither true u n i h = absurd (omega arith)
+neither false true n i h = absurd (omega arith)
+neither false false n i h = (refl, refl, omega arith)
+
+between : (a b m : ℕ) (x : ℤ) → a ≤ m → b ≤ m → ltZ x (negℤ (pos a)) ≡ false → ltZ (pos b) x ≡ false → natAbs x ≤ m
+between a b m x h k e f = let Γ = x ∷ pos a ∷ pos b ∷ [] in
+    let above : negℤ (pos a) ≼ x = ltZ-no (rw e tt) in
+    let below : x ≼ pos b = ltZ-no (rw f tt) in
+    omega (arith, abs-fact Γ x (search quotes), le-fact Γ above (search quotes), le-fact Γ below (search quotes))
+
+module _ (a b m : ℕ) (ha : a ≤ m) (hb : b ≤ m) where
+  quiet : (xs : List ℤ) → length xs ≤ firstLoud (negℤ (pos a)) (pos b) xs → (k : ℕ) → natAbs (cell xs k) ≤ m
+  unfolding firstLoud
+  quiet [] h k = omega arith
+  quiet (x ∷ xs) h zero = let p = neither (ltZ x (negℤ (pos a))) (ltZ (pos b) x) (length xs) _ h in between a b m x ha hb (p .0) (p .1)
+  quiet (x ∷ xs) h (suc k) = let p = neither (ltZ x (negℤ (pos a))) (ltZ (pos b) x) (length xs) _ h in quiet xs (p .2) k
+
+-- ---- a test that is passed
+
+not-both : {A : Type 0} (refusal : Refusal) (kind : BlockKind) → Refused refusal ≡ Taken kind → A
+not-both refusal kind e = let z : _≡_ {A = ℕ} 0 1 = cc in absurd (omega arith)
+
+passed : (fault : Bool) (refusal : Refusal) (k : KindAnswer) (kind : BlockKind) → unless fault refusal k ≡ Taken kind → (fault ≡ false) × (k ≡ Taken kind)
+passed fault refusal (Refused earlier) kind e = not-both earlier kind e
+passed true refusal (Taken asked) kind e = not-both refusal kind e
+passed false refusal (Taken asked) kind e = (refl, e)
+
+-- ---- a block that is taken
+
+module _ (low high : ℤ) (outputs : List ℕ) (xs : List ℤ) (kind : BlockKind) (e : tested low high outputs xs ≡ Taken kind) where
+  quiet-then : (ltb (firstLoud low high xs) (length xs) ≡ false) × (unless (misfit (length xs / 2 + 1) outputs) Misfit (kindOf (length xs)) ≡ Taken kind)
+  unfolding tested
+  quiet-then = passed (ltb (firstLoud low high xs) (length xs)) (Loud (firstLoud low high xs)) (unless (misfit (length xs / 2 + 1) outputs) Misfit (kindOf (length xs))) kind e
+
+  fits-then : (misfit (length xs / 2 + 1) outputs ≡ false) × (kindOf (length xs) ≡ Taken kind)
+  fits-then = passed (misfit (length xs / 2 + 1) outputs) Misfit (kindOf (length xs)) kind (quiet-then .1)
+
+  pub taken-kind : Kind-length (length xs) (kind .p)
+  taken-kind = kind-length (length xs) (kind .p) (fits-then .1)
+
+  pub taken-fits : misfit (length xs / 2 + 1) outputs ≡ false
+  taken-fits = fits-then .0
+
+pub taken-quiet : (a b m : ℕ) (outputs : List ℕ) (xs : List ℤ) (kind : BlockKind) → a ≤ m → b ≤ m → tested (negℤ (pos a)) (pos b) outputs xs ≡ Taken kind
+    → (i : ℕ) → natAbs (cell xs i) ≤ m
+taken-quiet a b m outputs xs kind ha hb e = quiet a b m ha hb xs (ltb-false _ _ (quiet-then (negℤ (pos a)) (pos b) outputs xs kind e .0))
+
+pub taken-line : (line : Line) (xs : List ℤ) (kind : BlockKind) → testedLine line xs ≡ Taken kind → (testedSpectrum [] xs ≡ Taken kind) × (line .0 ≤ length xs / 2)
+taken-line line xs kind e = let p = passed (ltb (length xs / 2) (line .0)) (Beyond line) (testedSpectrum [] xs) kind e in (p .1, ltb-false _ _ (p .0))
+
+-- ---- and a block that must be taken
+
+not-below : (a b : ℤ) → b ≼ a → ltZ a b ≡ false
+not-below a b h = go (ltZ a b) refl
+  where
+    go : (t : Bool) → ltZ a b ≡ t → t ≡ false
+    go true e = clashℤ (ltZ-yes (rw e tt)) h
+    go false e = refl
+
+within : (m : ℕ) (x : ℤ) → natAbs x ≤ m → (ltZ x (negℤ (pos m)) ≡ false) × (ltZ (pos m) x ≡ false)
+within m x h = (not-below x (negℤ (pos m)) (abs-lower h), not-below (pos m) x (abs-upper h))
+
+all-quiet : (m : ℕ) (xs : List ℤ) → ((i : ℕ) → natAbs (cell xs i) ≤ m) → firstLoud (negℤ (pos m)) (pos m) xs ≡ length xs
+unfolding firstLoud
+all-quiet m [] h = refl
+all-quiet m (x ∷ xs) h = let w = within m x (h 0) in rw (w .0, w .1) (ap suc (all-quiet m xs (λ i. h (suc i))))
+
+pub must-take : (m P : ℕ) (outputs : List ℕ) (xs : List ℤ) → Kind-length (length xs) P → misfit (length xs / 2 + 1) outputs ≡ false → ((i : ℕ) → natAbs (cell xs i) ≤ m)
+    → tested (negℤ (pos m)) (pos m) outputs xs ≡ Taken (record { p = P })
+unfolding tested
+must-take m P outputs xs k f h = rw (all-quiet m xs h, le-ltb (length xs) (length xs) (omega arith), f, kind-given (length xs) P k) refl

@@ -1,0 +1,67 @@
+-- `tested_line` is right because it asks for the spectrum's tests first, and then compares the line with N/2.
+use borrow.Author.Needs.{needs}
+use borrow.Author.Tests.{lt-ltb, le-ltb}
+use mathlib.Core.Path.{_≡_, sym, _∙_, ap}
+use mathlib.Core.Bool.{Bool, true, false}
+use mathlib.Core.List.{List, []}
+use Prim.Native.Nat.{_/_, _≤_, _<_}
+use native.Mathlib.Omega.{arith}
+use lib.Dec.{ltb}
+use lib.IntN.{ℤ}
+use lib.ListN.{length}
+use Rattle.refusal.specs.declared.BlockKind.{BlockKind}
+use Rattle.refusal.specs.declared.KindAnswer.{KindAnswer}
+use Rattle.refusal.specs.declared.KindAnswer.the-variants.{Taken, Refused}
+use Rattle.refusal.specs.declared.Line.{Line}
+use Rattle.refusal.specs.declared.Refusal.the-variants.{Line as Beyond}
+use Rattle.block.specs.Tests.{unless, testedSpectrum, testedLine}
+use Rattle.block.proofs.tested_line.Statement.{statement}
+use Rattle.block.proofs.tested_line.Tie as tie
+
+-- k is what the spectrum's tests have found
+module _ (line : Line) (xs : List ℤ) {k : KindAnswer} (e : k ≡ testedSpectrum [] xs) where
+  first : (found : KindAnswer) → k ≡ found → unless (ltb (length xs / 2) (line .0)) (Beyond line) found ≡ testedLine line xs
+  first found g = ap (unless (ltb (length xs / 2) (line .0)) (Beyond line)) (sym g ∙ e)
+
+  -- the answer by the outcome of the comparison
+  by : (kind : BlockKind) (t : Bool) → k ≡ Taken kind → ltb (length xs / 2) (line .0) ≡ t → unless t (Beyond line) (Taken kind) ≡ testedLine line xs
+  by kind t g h = sym (ap (λ (u : Bool). unless u (Beyond line) (Taken kind)) h) ∙ first (Taken kind) g
+
+  beyond : (kind : BlockKind) → k ≡ Taken kind → length xs / 2 < line .0 → Refused (Beyond line) ≡ testedLine line xs
+  beyond kind g h = by kind true g (lt-ltb _ _ h)
+
+  within : (kind : BlockKind) → k ≡ Taken kind → line .0 ≤ length xs / 2 → Taken kind ≡ testedLine line xs
+  within kind g h = by kind false g (le-ltb _ _ h)
+
+slice-aggregate-tested-spectrum : tie.Need-slice-aggregate-tested-spectrum
+slice-aggregate-tested-spectrum c = search needs
+
+tested-spectrum-requires : tie.Need-tested-spectrum-requires
+tested-spectrum-requires c κs = search needs
+
+enum-known-refusal : tie.Need-enum-known-refusal
+enum-known-refusal c = search needs
+
+enum-known-kind : tie.Need-enum-known-kind
+enum-known-kind c = search needs
+
+returns : tie.Need-returns
+returns c = first _ _ (c .before .before .before .tested-spectrum .ensures) _ (c .before .refusal .given .1)
+
+returns-2 : tie.Need-returns-2
+returns-2 c = let b = c .before .before .before in beyond _ _ (b .before .before .tested-spectrum .ensures) _ (b .kind .given .1) (omega arith)
+
+returns-3 : tie.Need-returns-3
+returns-3 c = let b = c .before .before .before in within _ _ (b .before .before .tested-spectrum .ensures) _ (b .kind .given .1) (omega arith)
+
+pub tested-line-spec : {M : Type 1} → statement M
+tested-line-spec =
+    tie.close
+    (tie.spec
+    slice-aggregate-tested-spectrum
+    tested-spectrum-requires
+    enum-known-refusal
+    enum-known-kind
+    returns
+    returns-2
+    returns-3)

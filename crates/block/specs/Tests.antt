@@ -1,0 +1,51 @@
+-- Document 01, Refused input: block calls test 1, 2, 3, 4 in turn, and the first fault decides. Test 1 is `kindOf`.
+use mathlib.Core.Bool.{Bool, false, cond, not, _||_}
+use mathlib.Core.List.{List, [], _∷_}
+use Prim.Native.Nat.{ℕ, suc, _+_, _/_}
+use lib.Dec.{eqb, ltb}
+use lib.IntN.{ℤ, pos, negℤ}
+use lib.ListN.{length}
+use lib.Signed.{ltZ}
+use Rattle.refusal.specs.declared.KindAnswer.{KindAnswer}
+use Rattle.refusal.specs.declared.KindAnswer.the-variants.{Taken, Refused}
+use Rattle.refusal.specs.declared.Line.{Line}
+use Rattle.refusal.specs.declared.Refusal.{Refusal}
+use Rattle.refusal.specs.declared.Refusal.the-variants.{Misfit, Loud, Line as Beyond}
+use Rattle.refusal.specs.BlockKinds.{kindOf}
+use Rattle.block.specs.Cells.{LOUDEST-LINE}
+
+-- one test more: a kind that was taken so far is refused where the fault is there, and an earlier refusal stays
+abbrev pub unless : Bool → Refusal → KindAnswer → KindAnswer
+unless fault refusal (Taken kind) = cond fault (Refused refusal) (Taken kind)
+unless fault refusal (Refused earlier) = Refused earlier
+
+-- 2, misfit: whether a lent output, of n cells, has not as many as it should have
+unfoldable pub misfit : ℕ → List ℕ → Bool
+misfit wanted [] = false
+misfit wanted (n ∷ ns) = not (eqb n wanted) || misfit wanted ns
+
+-- 3, loud: the place of the first cell outside low to high, or the number of cells where there is none
+unfoldable pub firstLoud : ℤ → ℤ → List ℤ → ℕ
+firstLoud low high [] = 0
+firstLoud low high (x ∷ xs) = cond (ltZ x low || ltZ high x) 0 (suc (firstLoud low high xs))
+
+-- 1, 2 and 3 in turn: for cells of low to high, and for outputs that should have N/2 + 1 cells each
+unfoldable pub tested : ℤ → ℤ → List ℕ → List ℤ → KindAnswer
+unfolding misfit firstLoud
+tested low high outputs xs =
+    let N = length xs in
+    let place = firstLoud low high xs in
+    let fits = unless (misfit (N / 2 + 1) outputs) Misfit (kindOf N) in
+    unless (ltb place N) (Loud place) fits
+
+-- what forward takes: cells of -32,768 to 32,767
+abbrev pub testedSamples : List ℤ → KindAnswer
+testedSamples xs = tested (negℤ (pos 32768)) (pos 32767) [] xs
+
+-- what any call takes that takes a spectrum: cells within ±2^28
+abbrev pub testedSpectrum : List ℕ → List ℤ → KindAnswer
+testedSpectrum outputs xs = tested (negℤ (pos LOUDEST-LINE)) (pos LOUDEST-LINE) outputs xs
+
+-- and 4, where a line is asked for: it is above N/2
+abbrev pub testedLine : Line → List ℤ → KindAnswer
+testedLine line xs = unless (ltb (length xs / 2) (line .0)) (Beyond line) (testedSpectrum [] xs)

@@ -1,0 +1,101 @@
+// The tests of what is lent to a call on a block (document 01, Refused input: 1, 2, 3, 4 in turn), and the answer of such a call.
+use refusal::BlockKind;
+use refusal::KindAnswer;
+use refusal::Line;
+use refusal::Refusal;
+ghost use mathlib.Core.Path.{_≡_};
+ghost use Rattle.block.specs.Tests.{firstLoud, misfit, tested, testedLine, testedSamples, testedSpectrum};
+
+// The least sample.
+const LEAST_SAMPLE: i64 = -32768;
+
+// The largest sample.
+const LARGEST_SAMPLE: i64 = 32767;
+
+// The largest line of a spectrum, to either side: 2^28.
+const LARGEST_LINE: i64 = 268435456;
+
+// What a call on a block answers.
+pub enum Answer {
+    Done,
+    Refused(Refusal),
+}
+
+// The kind of a block of samples, or its first fault.
+pub fn tested_samples(cells: &[i64]) -> KindAnswer
+    ensures { λ r. ⌜ r ≡ testedSamples (now (cells .entry)) ⌝ }
+{
+    tested(cells, LEAST_SAMPLE, LARGEST_SAMPLE, &[])
+}
+
+// The kind of a spectrum, or the first fault of it and of the outputs that go with it: lists of so many cells, for lines 0 to N/2.
+pub fn tested_spectrum(cells: &[i64], outputs: &[usize]) -> KindAnswer
+    ensures { λ r. ⌜ r ≡ testedSpectrum (now (outputs .entry)) (now (cells .entry)) ⌝ }
+{
+    tested(cells, -LARGEST_LINE, LARGEST_LINE, outputs)
+}
+
+// The kind of a spectrum of which a line is asked, or the first fault.
+pub fn tested_line(cells: &[i64], line: Line) -> KindAnswer
+    ensures { λ r. ⌜ r ≡ testedLine line (now (cells .entry)) ⌝ }
+{
+    match tested_spectrum(cells, &[]) {
+        KindAnswer::Refused(refusal) => KindAnswer::Refused(refusal),
+        KindAnswer::Taken(kind) => {
+            if cells.len() / 2 < line.0 {
+                KindAnswer::Refused(Refusal::Line(line))
+            } else {
+                KindAnswer::Taken(kind)
+            }
+        }
+    }
+}
+
+// The tests 1, 2 and 3 in turn.
+fn tested(cells: &[i64], low: i64, high: i64, outputs: &[usize]) -> KindAnswer
+    ensures { λ r. ⌜ r ≡ tested low high (now (outputs .entry)) (now (cells .entry)) ⌝ }
+{
+    match BlockKind::of_len(cells.len()) {
+        KindAnswer::Refused(refusal) => KindAnswer::Refused(refusal),
+        KindAnswer::Taken(kind) => {
+            if misfit(outputs, cells.len() / 2 + 1) {
+                return KindAnswer::Refused(Refusal::Misfit);
+            }
+            let place = first_loud(cells, low, high);
+            if place < cells.len() {
+                KindAnswer::Refused(Refusal::Loud(place))
+            } else {
+                KindAnswer::Taken(kind)
+            }
+        }
+    }
+}
+
+// Whether an output has not as many cells as wanted.
+fn misfit(outputs: &[usize], wanted: usize) -> bool
+    ensures { λ r. ⌜ r ≡ misfit wanted (now (outputs .entry)) ⌝ }
+{
+    let mut i = 0;
+    while i < outputs.len() {
+        if outputs[i] != wanted {
+            return true;
+        }
+        i += 1;
+    }
+    false
+}
+
+// The place of the first cell outside low to high, or the number of cells where there is none.
+fn first_loud(cells: &[i64], low: i64, high: i64) -> usize
+    ensures { λ r. ⌜ r ≡ firstLoud low high (now (cells .entry)) ⌝ }
+{
+    let mut i = 0;
+    while i < cells.len() {
+        let x = cells[i];
+        if x < low || high < x {
+            return i;
+        }
+        i += 1;
+    }
+    i
+}
