@@ -23,6 +23,10 @@ module _ {A : Type 0} (d : A) (f : ℕ → A) where
   pub filled-next : (xs : List A) (n : ℕ) (x : A) → n < length xs → x ≡ f n → Filled d f n xs → Filled d f (n + 1) (set xs n x)
   filled-next xs n x h e F = below-more (λ i. getD (set xs n x) i d ≡ f i) n (λ i k. other xs n x i k ∙ F i k) (getD-set-same xs n x d h ∙ e)
 
+  -- the same where the entry that is set is k and the next one is m
+  pub filled-then : (xs : List A) (n k m : ℕ) (x : A) → n < length xs → x ≡ f n → k ≡ n → m ≡ n + 1 → Filled d f n xs → Filled d f m (set xs k x)
+  filled-then xs n k m x h e ek em F = rw (ek, em) (filled-next xs n x h e F)
+
   -- an entry further on does not matter
   pub filled-still : (xs : List A) (n k : ℕ) (x : A) → n ≤ k → Filled d f n xs → Filled d f n (set xs k x)
   filled-still xs n k x h F i l = other xs k x i (omega arith) ∙ F i l

@@ -1,22 +1,16 @@
 -- `copy` is right because after i rounds the first i cells are those of the other list, and both lists are of one length.
 use borrow.Author.Needs.{needs}
 use mathlib.Core.Path.{_≡_}
-use mathlib.Core.List.{List}
-use Prim.Native.Nat.{ℕ, _+_, _-_, _<_}
+use Prim.Native.Nat.{_-_}
 use native.Mathlib.Omega.{arith}
-use lib.IntN.{ℤ, pos}
-use lib.ListN.{length, set, length-set}
+use lib.IntN.{pos}
+use lib.ListN.{length, length-set}
 use lib.Seq.{ext-getD}
 use denote.Ref.{now}
-use Rattle.ints.proofs.Filling.{Filled, filled-next}
+use Rattle.ints.proofs.Filling.{Filled, filled-then}
 use Rattle.block.specs.Cells.{cell}
 use Rattle.hartley.proofs.copy.Statement.{statement}
 use Rattle.hartley.proofs.copy.Tie as tie
-
--- x, which is cell i, is written to cell k, and the next round is n
-copied-next : (from to : List ℤ) (i k n : ℕ) (x : ℤ) → i < length to → x ≡ cell from i → k ≡ i → n ≡ i + 1
-    → Filled (pos 0) (cell from) i to → Filled (pos 0) (cell from) n (set to k x)
-copied-next from to i k n x h e ek en F = rw (ek, en) (filled-next (pos 0) (cell from) to i x h e F)
 
 abbrev Inv-loop : tie.InvT-loop
 Inv-loop from to₀ i₀ to i = (length to ≡ length from) × Filled (pos 0) (cell from) i to
@@ -47,7 +41,7 @@ loop-less c = omega arith
 
 loop-again : tie.Need-loop-again Inv-loop μ-loop
 loop-again c = let a = c .before .before .loop in let from = now (c .before .before .before .args .from) in
-    (simp length-set (a .inv .0), copied-next from (a .to) (a .i) _ _ _ (omega arith) (search needs) (omega arith) (omega arith) (a .inv .1))
+    (simp length-set (a .inv .0), filled-then (pos 0) (cell from) (a .to) (a .i) _ _ _ (omega arith) (search needs) (omega arith) (omega arith) (a .inv .1))
 
 same-length : tie.Need-same-length Inv-loop μ-loop
 same-length c = omega arith

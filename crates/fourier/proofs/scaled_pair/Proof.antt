@@ -1,0 +1,93 @@
+-- `scaled_pair` is right because each doubled part is small enough to be divided exactly, and the divisor is 2N.
+use borrow.Author.Needs.{needs, sfits-of}
+use mathlib.Core.Path.{_≡_, sym, _∙_, ap, ap₂}
+use Prim.Native.Nat.{ℕ, suc, _*_, _^_, _≤_, _<_}
+use native.Mathlib.Nat.{pow-succ'}
+use native.Mathlib.Omega.{arith}
+use lib.Ieee.{Float}
+use lib.IntN.{ℤ, natAbs}
+use mir.Facts.{toZ-ofZ}
+use mir.Syntax.{w64}
+use mir.Val.{SFits, toZ, ofZ}
+use Rattle.ints.proofs.Abs.{abs-plus, abs-minus}
+use Rattle.ints.proofs.Fit.{reads-back}
+use Rattle.block.specs.Cells.{LOUDEST-LINE}
+use Rattle.fourier.specs.declared.Part.{Part}
+use Rattle.fourier.specs.declared.Part.the-variants.{Real, Imaginary}
+use Rattle.fourier.specs.declared.Pair.{Pair}
+use Rattle.fourier.specs.Parts.{doubled}
+use Rattle.fourier.specs.Scaled.{quotient, scaledPair}
+use Rattle.fourier.specs.Workers.{PowerOfTwo}
+use Rattle.fourier.proofs.Exact.{power-small}
+use Rattle.fourier.proofs.scaled_pair.Statement.{statement}
+use Rattle.fourier.proofs.scaled_pair.Tie as tie
+
+-- ---- the divisor m is 2 len
+
+twice : (len m : ℕ) → PowerOfTwo 10 len → m ≡ 2 * len → PowerOfTwo 53 m
+twice len m p e = record { power = suc (p .power); few = omega arith; is = e ∙ ap (λ (x : ℕ). 2 * x) (p .is) ∙ sym (pow-succ' 2 (p .power)) }
+
+twice-fits : (len : ℕ) → PowerOfTwo 10 len → 2 * len < 2 ^ 64
+twice-fits len p = omega (arith, power-small 10 len p)
+
+-- ---- a line h and its mirror m, and what the machine reads of them
+
+module _ (h m : ℤ) (sh : natAbs h ≤ LOUDEST-LINE) (sm : natAbs m ≤ LOUDEST-LINE) where
+  real-small : natAbs (doubled Real h m) < 2 ^ 53
+  real-small = omega (arith, abs-plus h m)
+
+  imaginary-small : natAbs (doubled Imaginary h m) < 2 ^ 53
+  imaginary-small = omega (arith, abs-minus m h)
+
+  -- r is the doubled part of what is read of them
+  part-read : (part : Part) (r : ℤ) → SFits w64 r → r ≡ doubled part (toZ w64 (ofZ w64 h)) (toZ w64 (ofZ w64 m)) → toZ w64 (ofZ w64 r) ≡ doubled part h m
+  part-read part r f e = toZ-ofZ f ∙ e ∙ ap₂ (doubled part) (reads-back h LOUDEST-LINE (omega arith) sh) (reads-back m LOUDEST-LINE (omega arith) sm)
+
+-- x is z over n, z is the part and n is 2 len
+over : {x : Float} {z : ℤ} {n : ℕ} (len : ℕ) (w : ℤ) → x ≡ quotient z n → z ≡ w → n ≡ 2 * len → x ≡ quotient w (2 * len)
+over len w e f g = e ∙ ap₂ quotient f g
+
+both : {x y : Float} (len : ℕ) (h m : ℤ) → x ≡ quotient (doubled Real h m) (2 * len) → y ≡ quotient (doubled Imaginary h m) (2 * len) → _≡_ {A = Pair} (record { real = x; imaginary = y }) (scaledPair len h m)
+both len h m e f = ap₂ (λ (x y : Float). record { real = x; imaginary = y }) e f
+
+doubled-requires : tie.Need-doubled-requires
+doubled-requires c κs = search needs
+
+real-read : (c : tie.After-doubled) → let a = c .before in toZ w64 (ofZ w64 (c .doubled .result)) ≡ doubled Real (a .args .line) (a .args .mirror)
+real-read c = let a = c .before in part-read (a .args .line) (a .args .mirror) (a .pre .0) (a .pre .1) Real _ (sfits-of (c .doubled .ok)) (c .doubled .ensures)
+
+imaginary-read : (c : tie.After-doubled2) → let a = c .before .before .before in toZ w64 (ofZ w64 (c .doubled2 .result)) ≡ doubled Imaginary (a .args .line) (a .args .mirror)
+imaginary-read c = let a = c .before .before .before in part-read (a .args .line) (a .args .mirror) (a .pre .0) (a .pre .1) Imaginary _ (sfits-of (c .doubled2 .ok)) (c .doubled2 .ensures)
+
+mul-quotient : tie.Need-mul-quotient
+mul-quotient c = search (needs, twice-fits)
+
+quotient-requires : tie.Need-quotient-requires
+quotient-requires c κs = let a = c .before in (rw (real-read c) (real-small (a .args .line) (a .args .mirror) (a .pre .0) (a .pre .1)), twice _ _ (a .pre .2) (omega arith))
+
+doubled-requires-2 : tie.Need-doubled-requires-2
+doubled-requires-2 c κs = search needs
+
+mul-quotient-2 : tie.Need-mul-quotient-2
+mul-quotient-2 c = search (needs, twice-fits)
+
+quotient-requires-2 : tie.Need-quotient-requires-2
+quotient-requires-2 c κs = let a = c .before .before .before in (rw (imaginary-read c) (imaginary-small (a .args .line) (a .args .mirror) (a .pre .0) (a .pre .1)), twice _ _ (a .pre .2) (omega arith))
+
+returns : tie.Need-returns
+returns c = let a = c .before .before .before .before in
+    let n = a .args .len in
+    both n (a .args .line) (a .args .mirror) (over n _ (c .before .before .quotient .ensures .0) (real-read (c .before .before .before)) (omega arith))
+    (over n _ (c .quotient2 .ensures .0) (imaginary-read (c .before)) (omega arith))
+
+pub scaled-pair-spec : {M : Type 1} → statement M
+scaled-pair-spec =
+    tie.close
+    (tie.spec
+    doubled-requires
+    mul-quotient
+    quotient-requires
+    doubled-requires-2
+    mul-quotient-2
+    quotient-requires-2
+    returns)

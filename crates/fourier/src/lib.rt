@@ -1,0 +1,142 @@
+// The Fourier parts, the power and the scaled lines of a lent Hartley spectrum (document 01, Levels).
+use block::Answer;
+use refusal::KindAnswer;
+use refusal::Line;
+use refusal::Refusal;
+ghost use mathlib.Core.Path.{_≡_};
+ghost use Prim.Native.Nat.{_+_, _*_, _/_, _^_, _≤_, _<_};
+ghost use lib.IntN.{natAbs};
+ghost use lib.ListN.{length};
+ghost use Rattle.block.specs.Cells.{LOUDEST-LINE};
+ghost use Rattle.block.specs.Tests.{testedLine};
+ghost use Rattle.block.specs.Answers.{answerTo, firstFault, numbers};
+ghost use Rattle.fourier.specs.Parts.{doubled, doubledLines, linesLeft, testedParts, testedPower};
+ghost use Rattle.fourier.specs.Scaled.{Exactly, lineNumbers, quotient, scaledLine, scaledPair, scaledTo, Values};
+ghost use Rattle.fourier.specs.Workers.{Accepted, PowerOfTwo};
+ghost use Rattle.fourier.specs.declared.Part.the-variants.{Real, Imaginary, Power};
+
+// What is had, doubled, from a line and its mirror.
+pub enum Part {
+    Real,
+    Imaginary,
+    Power,
+}
+
+// The real and the imaginary part of a scaled line.
+pub struct Pair {
+    pub real: f64,
+    pub imaginary: f64,
+}
+
+// A scaled line: the mean for line 0, the last line for line N/2, a pair for every other line; or why there is none.
+pub enum ScaledLine {
+    Mean(f64),
+    Last(f64),
+    Pair(Pair),
+    Refused(Refusal),
+}
+
+// The doubled real and imaginary parts of a spectrum, for lines 0 to N/2, in two lent lists.
+pub fn parts(spectrum: &[i64], real: &mut [i64], imaginary: &mut [i64]) -> Answer
+    ensures answer { λ r. ⌜ r ≡ answerTo (testedParts (now (spectrum .entry)) (now (real .entry)) (now (imaginary .entry))) ⌝ }
+    ensures numbers { λ r. ⌜ numbers r ≡ firstFault (testedParts (now (spectrum .entry)) (now (real .entry)) (now (imaginary .entry))) ⌝ }
+    ensures real { λ _. ⌜ now (real .exit) ≡ linesLeft Real (now (spectrum .entry)) (now (real .entry)) (testedParts (now (spectrum .entry)) (now (real .entry)) (now (imaginary .entry))) ⌝ }
+    ensures imaginary { λ _. ⌜ now (imaginary .exit) ≡ linesLeft Imaginary (now (spectrum .entry)) (now (imaginary .entry)) (testedParts (now (spectrum .entry)) (now (real .entry)) (now (imaginary .entry))) ⌝ }
+{
+    match block::tested_spectrum(spectrum, &[real.len(), imaginary.len()]) {
+        KindAnswer::Refused(refusal) => Answer::Refused(refusal),
+        KindAnswer::Taken(_) => {
+            fill(spectrum, real, Part::Real);
+            fill(spectrum, imaginary, Part::Imaginary);
+            Answer::Done
+        }
+    }
+}
+
+// The doubled power of a spectrum, for lines 0 to N/2, in a lent list.
+pub fn power(spectrum: &[i64], power: &mut [i64]) -> Answer
+    ensures answer { λ r. ⌜ r ≡ answerTo (testedPower (now (spectrum .entry)) (now (power .entry))) ⌝ }
+    ensures numbers { λ r. ⌜ numbers r ≡ firstFault (testedPower (now (spectrum .entry)) (now (power .entry))) ⌝ }
+    ensures power { λ _. ⌜ now (power .exit) ≡ linesLeft Power (now (spectrum .entry)) (now (power .entry)) (testedPower (now (spectrum .entry)) (now (power .entry))) ⌝ }
+{
+    match block::tested_spectrum(spectrum, &[power.len()]) {
+        KindAnswer::Refused(refusal) => Answer::Refused(refusal),
+        KindAnswer::Taken(_) => {
+            fill(spectrum, power, Part::Power);
+            Answer::Done
+        }
+    }
+}
+
+// A line of a spectrum, scaled.
+pub fn scaled(spectrum: &[i64], line: Line) -> ScaledLine
+    ensures answer { λ r. ⌜ r ≡ scaledTo (now (spectrum .entry)) line (testedLine line (now (spectrum .entry))) ⌝ }
+    ensures numbers { λ r. ⌜ lineNumbers r ≡ firstFault (testedLine line (now (spectrum .entry))) ⌝ }
+    ensures values { λ r. ⌜ Values (now (spectrum .entry)) line r ⌝ }
+{
+    match block::tested_line(spectrum, line) {
+        KindAnswer::Refused(refusal) => ScaledLine::Refused(refusal),
+        KindAnswer::Taken(_) => scaled_line(spectrum, line),
+    }
+}
+
+// The lines 0 to N/2 of a part. The mirror of line 0 is line 0, that of line v is line N - v.
+fn fill(spectrum: &[i64], lines: &mut [i64], part: Part)
+    requires { ⌜ Accepted (now spectrum) × (length (now lines) ≡ length (now spectrum) / 2 + 1) ⌝ }
+    ensures { λ _. ⌜ now (lines .exit) ≡ doubledLines part (now (spectrum .entry)) ⌝ }
+{
+    let mut v = 0;
+    let mut mirror = 0;
+    while v < lines.len() {
+        lines[v] = doubled(part, spectrum[v], spectrum[mirror]);
+        v += 1;
+        mirror = spectrum.len() - v;
+    }
+}
+
+// A part of a line and its mirror.
+fn doubled(part: Part, line: i64, mirror: i64) -> i64
+    requires { ⌜ (natAbs line ≤ LOUDEST-LINE) × (natAbs mirror ≤ LOUDEST-LINE) ⌝ }
+    ensures { λ r. ⌜ r ≡ doubled part line mirror ⌝ }
+{
+    match part {
+        Part::Real => line + mirror,
+        Part::Imaginary => mirror - line,
+        Part::Power => line * line + mirror * mirror,
+    }
+}
+
+// A line that the spectrum has, scaled.
+fn scaled_line(spectrum: &[i64], line: Line) -> ScaledLine
+    requires { ⌜ Accepted (now spectrum) × (line .0 ≤ length (now spectrum) / 2) ⌝ }
+    ensures { λ r. ⌜ r ≡ scaledLine (now (spectrum .entry)) (line .0) ⌝ }
+{
+    let len = spectrum.len();
+    let v = line.0;
+    if v == 0 {
+        return ScaledLine::Mean(quotient(spectrum[0], len));
+    }
+    if v == len / 2 {
+        return ScaledLine::Last(quotient(spectrum[v], len));
+    }
+    ScaledLine::Pair(scaled_pair(spectrum[v], spectrum[len - v], len))
+}
+
+// The real and the imaginary part of a line and its mirror, of len cells: the doubled part over 2 len.
+fn scaled_pair(line: i64, mirror: i64, len: usize) -> Pair
+    requires { ⌜ (natAbs line ≤ LOUDEST-LINE) × (natAbs mirror ≤ LOUDEST-LINE) × PowerOfTwo 10 len ⌝ }
+    ensures { λ r. ⌜ r ≡ scaledPair len line mirror ⌝ }
+{
+    Pair {
+        real: quotient(doubled(Part::Real, line, mirror), 2 * len),
+        imaginary: quotient(doubled(Part::Imaginary, line, mirror), 2 * len),
+    }
+}
+
+// h / n, exactly.
+fn quotient(h: i64, n: usize) -> f64
+    requires { ⌜ (natAbs h < 2 ^ 53) × PowerOfTwo 53 n ⌝ }
+    ensures { λ r. ⌜ (r ≡ quotient h n) × Exactly h n r ⌝ }
+{
+    h as f64 / n as f64
+}
