@@ -2,12 +2,12 @@
 -- which all that holds is taken.
 -- Example: `taken-quiet 32768 32767 32768 [] xs kind (omega arith) (omega arith) e i : natAbs (cell xs i) ≤ 32768`, with e : testedSamples xs ≡ Taken kind.
 use mathlib.Core.Path.{_≡_, refl, _∙_, ap}
-use mathlib.Core.Bool.{Bool, true, false, cond, _||_}
+use mathlib.Core.Bool.{Bool, true, false, cond, not, _||_, true≢false}
 use mathlib.Core.List.{List, [], _∷_}
 use Prim.Native.Nat.{ℕ, zero, suc, _+_, _/_, _≤_}
 use native.Mathlib.Omega.{arith}
-use borrow.Author.Tests.{le-ltb, ltb-false}
-use lib.Dec.{T, ltb}
+use borrow.Author.Tests.{eqb-true, le-ltb, ltb-false}
+use lib.Dec.{eqb, ltb}
 use lib.IntN.{ℤ, pos, negℤ, natAbs}
 use lib.ListN.{length}
 use lib.Signed.{ltZ, ltZ-yes, ltZ-no, clashℤ}
@@ -54,6 +54,16 @@ passed : (fault : Bool) (refusal : Refusal) (k : KindAnswer) (kind : BlockKind) 
 passed fault refusal (Refused earlier) kind e = not-both earlier kind e
 passed true refusal (Taken asked) kind e = not-both refusal kind e
 passed false refusal (Taken asked) kind e = (refl, e)
+
+-- ---- outputs that fit
+
+pub output-fits : (wanted n : ℕ) (ns : List ℕ) → misfit wanted (n ∷ ns) ≡ false → (n ≡ wanted) × (misfit wanted ns ≡ false)
+unfolding misfit
+output-fits wanted n ns e = go (eqb n wanted) refl e
+  where
+    go : (t : Bool) → eqb n wanted ≡ t → (not t || misfit wanted ns) ≡ false → (n ≡ wanted) × (misfit wanted ns ≡ false)
+    go true f e = (eqb-true n wanted f, e)
+    go false f e = absurd (true≢false e)
 
 -- ---- a block that is taken
 

@@ -1,34 +1,67 @@
+-- `scaled` is right because `tested_line` finds the first fault or none, `scaled_line` answers for a line that there is, and its f64 are exact.
 use borrow.Author.Needs.{needs}
+use mathlib.Core.Path.{_≡_, sym, _∙_, ap}
+use mathlib.Core.List.{List, []}
+use Prim.Native.Nat.{_/_, _≤_}
+use lib.IntN.{ℤ}
+use lib.ListN.{length}
+use denote.Ref.{now}
+use Rattle.refusal.specs.declared.BlockKind.{BlockKind}
+use Rattle.refusal.specs.declared.KindAnswer.the-variants.{Taken, Refused as Untaken}
+use Rattle.refusal.specs.declared.Line.{Line}
+use Rattle.block.specs.Tests.{testedLine}
+use Rattle.block.specs.Answers.{firstFault}
+use Rattle.block.proofs.Taken.{taken-line}
+use Rattle.fourier.specs.declared.ScaledLine.{ScaledLine}
+use Rattle.fourier.specs.Scaled.{lineNumbers, scaledLine, scaledTo, Values}
+use Rattle.fourier.specs.Workers.{Accepted}
+use Rattle.fourier.proofs.Lines.{taken-accepted}
+use Rattle.fourier.proofs.Values.{values, no-numbers}
 use Rattle.fourier.proofs.scaled.Statement.{statement}
 use Rattle.fourier.proofs.scaled.Tie as tie
-use Rattle.fourier.proofs.scaled.Reads as reads
-use Rattle.fourier.proofs.scaled.Lts as lts
-use Rattle.block.proofs.tested_line.Reads as tested-line-reads
-use Rattle.fourier.proofs.scaled_line.Reads as scaled-line-reads
 
--- src/lib.rt:77:11
+-- a line that is taken, and the answer r to it
+module _ (xs : List ℤ) (line : Line) (kind : BlockKind) (e : testedLine line xs ≡ Taken kind) where
+  accepted : Accepted xs
+  accepted = taken-accepted [] xs kind (taken-line line xs kind e .0)
+
+  module _ {r : ScaledLine} (f : r ≡ scaledLine xs (line .0)) where
+    answer : r ≡ scaledTo xs line (testedLine line xs)
+    answer = f ∙ sym (ap (scaledTo xs line) e)
+
+    numbers : lineNumbers r ≡ firstFault (testedLine line xs)
+    numbers = ap lineNumbers f ∙ no-numbers xs (line .0) ∙ sym (ap firstFault e)
+
+    exact : Values xs line r
+    exact = rw f (values accepted line)
+
 tested-line-requires : tie.Need-tested-line-requires
 tested-line-requires c κs = search needs
 
--- src/lib.rt:78:29
 enum-known-refusal : tie.Need-enum-known-refusal
 enum-known-refusal c = search needs
 
--- src/lib.rt:79:33
 enum-told : tie.Need-enum-told
 enum-told c = search needs
 
--- src/lib.rt:79:33
+-- what the tests have found
+refused : (c : tie.After-refusal) → let s = c .before .before .before in testedLine (s .args .line) (now (s .args .spectrum)) ≡ Untaken (c .refusal .given .0 .0)
+refused c = sym (c .before .before .tested-line .ensures) ∙ c .refusal .given .1
+
+taken : (c : tie.After-enum-told) → let s = c .before .before .before in testedLine (s .args .line) (now (s .args .spectrum)) ≡ Taken (c .enum-told .given .0 .0)
+taken c = sym (c .before .before .tested-line .ensures) ∙ c .enum-told .given .1
+
 scaled-line-requires : tie.Need-scaled-line-requires
-scaled-line-requires c κs = ?
+scaled-line-requires c κs = let s = c .before .before .before in let xs = now (s .args .spectrum) in
+    (accepted xs (s .args .line) _ (taken c), taken-line (s .args .line) xs _ (taken c) .1)
 
--- src/lib.rt:72:1
 returns : tie.Need-returns
-returns c = ?
+returns c = let s = c .before .before .before .before in let e = refused (c .before) in
+    (sym (ap (scaledTo (now (s .args .spectrum)) (s .args .line)) e), (sym (ap firstFault e), tt))
 
--- src/lib.rt:72:1
 returns-2 : tie.Need-returns-2
-returns-2 c = ?
+returns-2 c = let t = c .before in let s = t .before .before .before in let xs = now (s .args .spectrum) in let f = c .scaled-line .ensures in
+    (answer xs (s .args .line) _ (taken t) f, (numbers xs (s .args .line) _ (taken t) f, exact xs (s .args .line) _ (taken t) f))
 
 pub scaled-spec : {M : Type 1} → statement M
 scaled-spec =

@@ -1,15 +1,13 @@
 -- `scaled_pair` is right because each doubled part is small enough to be divided exactly, and the divisor is 2N.
 use borrow.Author.Needs.{needs, sfits-of}
-use mathlib.Core.Path.{_≡_, sym, _∙_, ap, ap₂}
-use Prim.Native.Nat.{ℕ, suc, _*_, _^_, _≤_, _<_}
-use native.Mathlib.Nat.{pow-succ'}
+use mathlib.Core.Path.{_≡_, _∙_, ap₂}
+use Prim.Native.Nat.{ℕ, _*_, _^_, _≤_, _<_}
 use native.Mathlib.Omega.{arith}
 use lib.Ieee.{Float}
 use lib.IntN.{ℤ, natAbs}
 use mir.Facts.{toZ-ofZ}
 use mir.Syntax.{w64}
 use mir.Val.{SFits, toZ, ofZ}
-use Rattle.ints.proofs.Abs.{abs-plus, abs-minus}
 use Rattle.ints.proofs.Fit.{reads-back}
 use Rattle.block.specs.Cells.{LOUDEST-LINE}
 use Rattle.fourier.specs.declared.Part.{Part}
@@ -19,13 +17,11 @@ use Rattle.fourier.specs.Parts.{doubled}
 use Rattle.fourier.specs.Scaled.{quotient, scaledPair}
 use Rattle.fourier.specs.Workers.{PowerOfTwo}
 use Rattle.fourier.proofs.Exact.{power-small}
+use Rattle.fourier.proofs.Values.{twice, real-small, imaginary-small}
 use Rattle.fourier.proofs.scaled_pair.Statement.{statement}
 use Rattle.fourier.proofs.scaled_pair.Tie as tie
 
--- ---- the divisor m is 2 len
-
-twice : (len m : ℕ) → PowerOfTwo 10 len → m ≡ 2 * len → PowerOfTwo 53 m
-twice len m p e = record { power = suc (p .power); few = omega arith; is = e ∙ ap (λ (x : ℕ). 2 * x) (p .is) ∙ sym (pow-succ' 2 (p .power)) }
+-- ---- the divisor
 
 twice-fits : (len : ℕ) → PowerOfTwo 10 len → 2 * len < 2 ^ 64
 twice-fits len p = omega (arith, power-small 10 len p)
@@ -33,12 +29,6 @@ twice-fits len p = omega (arith, power-small 10 len p)
 -- ---- a line h and its mirror m, and what the machine reads of them
 
 module _ (h m : ℤ) (sh : natAbs h ≤ LOUDEST-LINE) (sm : natAbs m ≤ LOUDEST-LINE) where
-  real-small : natAbs (doubled Real h m) < 2 ^ 53
-  real-small = omega (arith, abs-plus h m)
-
-  imaginary-small : natAbs (doubled Imaginary h m) < 2 ^ 53
-  imaginary-small = omega (arith, abs-minus m h)
-
   -- r is the doubled part of what is read of them
   part-read : (part : Part) (r : ℤ) → SFits w64 r → r ≡ doubled part (toZ w64 (ofZ w64 h)) (toZ w64 (ofZ w64 m)) → toZ w64 (ofZ w64 r) ≡ doubled part h m
   part-read part r f e = toZ-ofZ f ∙ e ∙ ap₂ (doubled part) (reads-back h LOUDEST-LINE (omega arith) sh) (reads-back m LOUDEST-LINE (omega arith) sm)
