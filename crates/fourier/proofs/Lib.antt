@@ -1,3 +1,4 @@
 pub mod Exact
 pub mod Lines
 pub mod Values
+pub mod Relations

@@ -35,7 +35,7 @@ distance-at s low high M M-small = distance (nearest-at s low high) M M-small
 
 -- ---- at the scale in force
 
-in-force : Nearest SCALE (rounded SCALE) (tableCosine SCALE-DIGITS) (tableSine SCALE-DIGITS)
+pub in-force : Nearest SCALE (rounded SCALE) (tableCosine SCALE-DIGITS) (tableSine SCALE-DIGITS)
 in-force = nearest-at SCALE-DIGITS (omega arith) (omega arith)
 
 -- step 6: document 01's figures E(0) to E(10) are `bound` at 32,768 for scale and samples, computed once

@@ -10,3 +10,4 @@ pub mod Distance
 pub mod Magnitude
 pub mod FirstLine
 pub mod Demand3
+pub mod Loudness
