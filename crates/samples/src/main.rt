@@ -1,8 +1,10 @@
 // The worked samples of document 01, run. What is printed is held to the file stdout, which was worked by hand from the document.
 use block::Answer;
+use fourier::ScaledLine;
 use libc::STDOUT_FILENO;
 use refusal::BlockKind;
 use refusal::KindAnswer;
+use refusal::Line;
 use refusal::Refusal;
 
 fn print(text: &[u8]) {
@@ -127,6 +129,94 @@ fn zeros_of(cells: &mut [i64]) {
     print(b"\n");
 }
 
+// The spectrum lent to parts, the answer, and the two lists that it leaves.
+fn parts_of(spectrum: &[i64], real: &mut [i64], imaginary: &mut [i64]) {
+    print(b"parts of");
+    print_cells(spectrum);
+    print(b":");
+    print_answer(fourier::parts(spectrum, real, imaginary));
+    print(b", real");
+    print_cells(real);
+    print(b", imaginary");
+    print_cells(imaginary);
+    print(b"\n");
+}
+
+// The same for power.
+fn power_of(spectrum: &[i64], power: &mut [i64]) {
+    print(b"power of");
+    print_cells(spectrum);
+    print(b":");
+    print_answer(fourier::power(spectrum, power));
+    print(b", power");
+    print_cells(power);
+    print(b"\n");
+}
+
+// A line of a spectrum, scaled.
+fn scaled_of(spectrum: &[i64], line: usize) {
+    print(b"line ");
+    io::print_decimal(STDOUT_FILENO, line as u64);
+    print(b" of");
+    print_cells(spectrum);
+    print(b":");
+    match fourier::scaled(spectrum, Line(line)) {
+        ScaledLine::Mean(mean) => print_value(b" mean ", mean),
+        ScaledLine::Last(last) => print_value(b" last ", last),
+        ScaledLine::Pair(pair) => {
+            print_value(b" real ", pair.real);
+            print_value(b" imaginary ", pair.imaginary);
+        }
+        ScaledLine::Refused(refusal) => print_refusal(refusal),
+    }
+    print(b"\n");
+}
+
+// A word and an f64 in thousandths, cut to a whole number, with a minus before what is negative and before minus zero.
+fn print_value(word: &[u8], x: f64) {
+    print(word);
+    if x < 0.0 || 1.0 / x < 0.0 {
+        print(b"-");
+    }
+    print_thousandths(if x < 0.0 { -x } else { x });
+}
+
+fn print_thousandths(x: f64) {
+    let thousandths = x * 1000.0;
+    if thousandths > -1.0 {
+        if thousandths < 18446744073709551616.0 {
+            io::print_decimal(STDOUT_FILENO, std::num::truncating_f64_to_u64(thousandths));
+        }
+    }
+}
+
+fn lines() {
+    parts_of(&[10, -4, -2, 0], &mut [7; 3], &mut [7; 3]);
+    power_of(&[10, -4, -2, 0], &mut [7; 3]);
+    parts_of(&[-2, 8], &mut [7; 2], &mut [7; 2]);
+    power_of(&[268435456, -268435456], &mut [7; 2]);
+    // 1 before 2, 2 for either list, 2 before 3
+    parts_of(&[1, 2, 3], &mut [7; 1], &mut [7; 1]);
+    parts_of(&[10, -4, -2, 0], &mut [7; 2], &mut [7; 3]);
+    parts_of(&[10, -4, -2, 0], &mut [7; 3], &mut [7; 4]);
+    power_of(&[268435457, 0], &mut [7; 1]);
+    power_of(&[0, -268435457], &mut [7; 2]);
+}
+
+fn scaled_lines() {
+    scaled_of(&[10, -4, -2, 0], 0);
+    scaled_of(&[10, -4, -2, 0], 1);
+    scaled_of(&[10, -4, -2, 0], 2);
+    scaled_of(&[10, -4, -2, 0], 3);
+    scaled_of(&[-2, 8], 0);
+    scaled_of(&[-2, 8], 1);
+    scaled_of(&[-2, 8], 2);
+    scaled_of(&[0, 0], 0);
+    // 3 before 4
+    scaled_of(&[0, 268435457], 2);
+    scaled_of(&[0, 0, 0, 0], 18446744073709551615);
+}
+
 fn blocks() {
     forward_of(&mut [0, 0]);
     forward_of(&mut [3, -5]);
@@ -185,4 +275,6 @@ fn main() {
     length_of(BlockKind::LARGEST);
     blocks();
     lengths();
+    lines();
+    scaled_lines();
 }
