@@ -23,7 +23,7 @@ use Rattle.refusal.specs.declared.Refusal.the-variants.{Misfit, Loud, Line as B
 use Rattle.refusal.specs.BlockKinds.{kindOf}
 use Rattle.refusal.proofs.Lengths.{Kind-length, kind-length, kind-given}
 use Rattle.block.specs.Cells.{cell}
-use Rattle.block.specs.Tests.{unless, misfit, firstLoud, tested, testedSpectrum, testedLine}
+use Rattle.block.specs.Tests.{refusedIf, misfit, firstLoud, tested, testedSpectrum, testedLine}
 
 -- ---- a list with no loud cell
 
@@ -50,7 +50,7 @@ module _ (a b m : ℕ) (ha : a ≤ m) (hb : b ≤ m) where
 not-both : {A : Type 0} (refusal : Refusal) (kind : BlockKind) → Refused refusal ≡ Taken kind → A
 not-both refusal kind e = let z : _≡_ {A = ℕ} 0 1 = cc in absurd (omega arith)
 
-passed : (fault : Bool) (refusal : Refusal) (k : KindAnswer) (kind : BlockKind) → unless fault refusal k ≡ Taken kind → (fault ≡ false) × (k ≡ Taken kind)
+passed : (fault : Bool) (refusal : Refusal) (k : KindAnswer) (kind : BlockKind) → refusedIf fault refusal k ≡ Taken kind → (fault ≡ false) × (k ≡ Taken kind)
 passed fault refusal (Refused earlier) kind e = not-both earlier kind e
 passed true refusal (Taken asked) kind e = not-both refusal kind e
 passed false refusal (Taken asked) kind e = (refl, e)
@@ -68,9 +68,9 @@ output-fits wanted n ns e = go (eqb n wanted) refl e
 -- ---- a block that is taken
 
 module _ (low high : ℤ) (outputs : List ℕ) (xs : List ℤ) (kind : BlockKind) (e : tested low high outputs xs ≡ Taken kind) where
-  quiet-then : (ltb (firstLoud low high xs) (length xs) ≡ false) × (unless (misfit (length xs / 2 + 1) outputs) Misfit (kindOf (length xs)) ≡ Taken kind)
+  quiet-then : (ltb (firstLoud low high xs) (length xs) ≡ false) × (refusedIf (misfit (length xs / 2 + 1) outputs) Misfit (kindOf (length xs)) ≡ Taken kind)
   unfolding tested
-  quiet-then = passed (ltb (firstLoud low high xs) (length xs)) (Loud (firstLoud low high xs)) (unless (misfit (length xs / 2 + 1) outputs) Misfit (kindOf (length xs))) kind e
+  quiet-then = passed (ltb (firstLoud low high xs) (length xs)) (Loud (firstLoud low high xs)) (refusedIf (misfit (length xs / 2 + 1) outputs) Misfit (kindOf (length xs))) kind e
 
   fits-then : (misfit (length xs / 2 + 1) outputs ≡ false) × (kindOf (length xs) ≡ Taken kind)
   fits-then = passed (misfit (length xs / 2 + 1) outputs) Misfit (kindOf (length xs)) kind (quiet-then .1)

@@ -14,12 +14,12 @@ use Rattle.refusal.specs.declared.Refusal.the-variants.{Misfit, Loud, Line as B
 use Rattle.refusal.specs.BlockKinds.{kindOf}
 use Rattle.block.specs.Cells.{LOUDEST-LINE}
 
--- one test more: a kind that was taken so far is refused where the fault is there, and an earlier refusal stays
-abbrev pub unless : Bool → Refusal → KindAnswer → KindAnswer
-unless fault refusal (Taken kind) = cond fault (Refused refusal) (Taken kind)
-unless fault refusal (Refused earlier) = Refused earlier
+-- one test more: a kind that was taken so far is refused where there is a fault, and an earlier refusal stays
+abbrev pub refusedIf : Bool → Refusal → KindAnswer → KindAnswer
+refusedIf fault refusal (Taken kind) = cond fault (Refused refusal) (Taken kind)
+refusedIf fault refusal (Refused earlier) = Refused earlier
 
--- 2, misfit: whether a lent output, of n cells, has not as many as it should have
+-- 2, misfit: whether one of the lent outputs, of so many cells each, has not as many as wanted
 unfoldable pub misfit : ℕ → List ℕ → Bool
 misfit wanted [] = false
 misfit wanted (n ∷ ns) = not (eqb n wanted) || misfit wanted ns
@@ -35,8 +35,9 @@ unfolding misfit firstLoud
 tested low high outputs xs =
     let N = length xs in
     let place = firstLoud low high xs in
-    let fits = unless (misfit (N / 2 + 1) outputs) Misfit (kindOf N) in
-    unless (ltb place N) (Loud place) fits
+    let after-1 = kindOf N in
+    let after-2 = refusedIf (misfit (N / 2 + 1) outputs) Misfit after-1 in
+    refusedIf (ltb place N) (Loud place) after-2
 
 -- what forward takes: cells of -32,768 to 32,767
 abbrev pub testedSamples : List ℤ → KindAnswer
@@ -48,4 +49,4 @@ testedSpectrum outputs xs = tested (negℤ (pos LOUDEST-LINE)) (pos LOUDEST-LINE
 
 -- and 4, where a line is asked for: it is above N/2
 abbrev pub testedLine : Line → List ℤ → KindAnswer
-testedLine line xs = unless (ltb (length xs / 2) (line .0)) (Beyond line) (testedSpectrum [] xs)
+testedLine line xs = refusedIf (ltb (length xs / 2) (line .0)) (Beyond line) (testedSpectrum [] xs)

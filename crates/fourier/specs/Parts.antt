@@ -7,7 +7,7 @@ use lib.ListN.{length}
 use Rattle.ints.specs.Tabulate.{tabulate}
 use Rattle.refusal.specs.declared.KindAnswer.{KindAnswer}
 use Rattle.block.specs.Cells.{cell}
-use Rattle.block.specs.Tests.{testedSpectrum}
+use Rattle.block.specs.Tests.{tested, testedSpectrum}
 use Rattle.block.specs.Answers.{cellsLeft}
 use Rattle.fourier.specs.declared.Part.{Part}
 use Rattle.fourier.specs.declared.Part.the-variants.{Real, Imaginary, Power}
@@ -34,8 +34,10 @@ abbrev pub linesLeft : Part → List ℤ → List ℤ → KindAnswer → List �
 linesLeft part xs lent answer = cellsLeft (λ _. doubledLines part xs) lent answer
 
 -- the tests of the spectrum xs and of the lists that are lent for the parts, or for the power
-abbrev pub testedParts : List ℤ → List ℤ → List ℤ → KindAnswer
+unfoldable pub testedParts : List ℤ → List ℤ → List ℤ → KindAnswer
+unfolding tested
 testedParts xs real imaginary = testedSpectrum (length real ∷ length imaginary ∷ []) xs
 
-abbrev pub testedPower : List ℤ → List ℤ → KindAnswer
+unfoldable pub testedPower : List ℤ → List ℤ → KindAnswer
+unfolding tested
 testedPower xs power = testedSpectrum (length power ∷ []) xs

@@ -14,7 +14,7 @@ use Rattle.refusal.specs.declared.KindAnswer.{KindAnswer}
 use Rattle.refusal.specs.declared.KindAnswer.the-variants.{Taken, Refused}
 use Rattle.refusal.specs.declared.Refusal.the-variants.{Misfit, Loud}
 use Rattle.refusal.specs.BlockKinds.{kindOf}
-use Rattle.block.specs.Tests.{unless, misfit, firstLoud, tested}
+use Rattle.block.specs.Tests.{refusedIf, misfit, firstLoud, tested}
 use Rattle.block.proofs.tested.Statement.{statement}
 use Rattle.block.proofs.tested.Tie as tie
 
@@ -22,7 +22,7 @@ use Rattle.block.proofs.tested.Tie as tie
 module _ (low high : ℤ) (outputs : List ℕ) (xs : List ℤ) (len : ℕ) {k : KindAnswer} (e : k ≡ kindOf len) (whole : len ≡ length xs) where
   -- tests 2 and 3 after what test 1 has found
   abbrev after : ℕ → Bool → KindAnswer → KindAnswer
-  after place fault first = unless (ltb place (length xs)) (Loud place) (unless fault Misfit first)
+  after place fault first = refusedIf (ltb place (length xs)) (Loud place) (refusedIf fault Misfit first)
 
   first : (found : KindAnswer) → k ≡ found → after (firstLoud low high xs) (misfit (length xs / 2 + 1) outputs) found ≡ tested low high outputs xs
   unfolding tested

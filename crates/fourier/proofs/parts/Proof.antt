@@ -11,8 +11,10 @@ use denote.Ref.{now}
 use Rattle.refusal.specs.declared.BlockKind.{BlockKind}
 use Rattle.refusal.specs.declared.KindAnswer.{KindAnswer}
 use Rattle.refusal.specs.declared.KindAnswer.the-variants.{Taken, Refused as Untaken}
+use Rattle.refusal.specs.declared.Refusal.{Refusal}
 use Rattle.block.specs.Tests.{misfit, testedSpectrum}
-use Rattle.block.specs.Answers.{answerTo, firstFault}
+use Rattle.block.specs.Answers.{answerTo, firstFault, numbers}
+use Rattle.block.specs.declared.Answer.the-variants.{Refused}
 use Rattle.block.proofs.Taken.{output-fits, taken-fits}
 use Rattle.fourier.specs.declared.Part.{Part}
 use Rattle.fourier.specs.declared.Part.the-variants.{Real, Imaginary}
@@ -24,14 +26,28 @@ use Rattle.fourier.proofs.parts.Tie as tie
 
 -- the outputs that are tested, of m and n cells, are the two lists
 found : {k t : KindAnswer} {m n : ℕ} (xs real imaginary : List ℤ) → k ≡ testedSpectrum (m ∷ n ∷ []) xs → k ≡ t → m ≡ length real → n ≡ length imaginary → testedParts xs real imaginary ≡ t
+unfolding testedParts
 found xs real imaginary e g p q = sym (ap₂ (λ (m n : ℕ). testedSpectrum (m ∷ n ∷ []) xs) p q) ∙ sym e ∙ g
+
+-- a refusal: zs, what is left in a list, is what was lent
+module _ (xs real imaginary : List ℤ) (refusal : Refusal) {k : KindAnswer} {m n : ℕ} (e : k ≡ testedSpectrum (m ∷ n ∷ []) xs) (g : k ≡ Untaken refusal) (p : m ≡ length real) (q : n ≡ length imaginary) where
+  refused-answer : Refused refusal ≡ answerTo (testedParts xs real imaginary)
+  refused-answer = sym (ap answerTo (found xs real imaginary e g p q))
+
+  refused-numbers : numbers (Refused refusal) ≡ firstFault (testedParts xs real imaginary)
+  refused-numbers = sym (ap firstFault (found xs real imaginary e g p q))
+
+  refused-list : (part : Part) (lent zs : List ℤ) → zs ≡ lent → zs ≡ linesLeft part xs lent (testedParts xs real imaginary)
+  refused-list part lent zs kept = kept ∙ sym (ap (linesLeft part xs lent) (found xs real imaginary e g p q))
 
 -- what follows for a spectrum xs and two lists that are taken
 module _ (xs real imaginary : List ℤ) (kind : BlockKind) (e : testedParts xs real imaginary ≡ Taken kind) where
   accepted : Accepted xs
+  unfolding testedParts
   accepted = taken-accepted (length real ∷ length imaginary ∷ []) xs kind e
 
   both-fit : (length real ≡ length xs / 2 + 1) × (misfit (length xs / 2 + 1) (length imaginary ∷ []) ≡ false)
+  unfolding testedParts
   both-fit = output-fits (length xs / 2 + 1) (length real) (length imaginary ∷ []) (taken-fits _ _ (length real ∷ length imaginary ∷ []) xs kind e)
 
   imaginary-fits : length imaginary ≡ length xs / 2 + 1
@@ -53,10 +69,6 @@ enum-told c = search needs
 abbrev tests : tie.Start → KindAnswer
 tests s = testedParts (now (s .args .spectrum)) (now (s .args .real)) (now (s .args .imaginary))
 
-refused : (c : tie.After-refusal) → tests (c .before .before .before .before) ≡ Untaken (c .refusal .given .0 .0)
-refused c = let s = c .before .before .before .before in
-    found (now (s .args .spectrum)) (now (s .args .real)) (now (s .args .imaginary)) (c .before .before .tested-spectrum .ensures) (c .refusal .given .1) (omega arith) (omega arith)
-
 taken : (c : tie.After-enum-told) → tests (c .before .before .before .before) ≡ Taken (c .enum-told .given .0 .0)
 taken c = let s = c .before .before .before .before in
     found (now (s .args .spectrum)) (now (s .args .real)) (now (s .args .imaginary)) (c .before .before .tested-spectrum .ensures) (c .enum-told .given .1) (omega arith) (omega arith)
@@ -70,8 +82,13 @@ fill-requires-2 c κs = let s = c .before .before .before .before .before .befor
     (accepted _ (now (s .args .real)) (now (s .args .imaginary)) _ e, imaginary-fits _ (now (s .args .real)) (now (s .args .imaginary)) _ e)
 
 returns : tie.Need-returns
-returns c = let s = c .before .before .before .before .before in let xs = now (s .args .spectrum) in let e = refused (c .before) in
-    (sym (ap answerTo e), (sym (ap firstFault e), (sym (ap (linesLeft Real xs (now (s .args .real))) e), sym (ap (linesLeft Imaginary xs (now (s .args .imaginary))) e))))
+returns c = let r = c .before .refusal .given .0 .0 in let e = c .before .before .before .tested-spectrum .ensures in let g = c .before .refusal .given .1 in (
+  refused-answer _ _ _ r e g (search needs) (search needs),
+  (
+    refused-numbers _ _ _ r e g (search needs) (search needs),
+    (refused-list _ _ _ r e g (search needs) (search needs) Real _ _ (search needs), refused-list _ _ _ r e g (search needs) (search needs) Imaginary _ _ (search needs)),
+  ),
+)
 
 same-length : tie.Need-same-length
 same-length c = search needs

@@ -15,15 +15,22 @@ use Rattle.block.specs.Answers.{answerTo, firstFault}
 use Rattle.block.proofs.Taken.{output-fits, taken-fits}
 use Rattle.fourier.specs.declared.Part.the-variants.{Power}
 use Rattle.fourier.specs.Parts.{linesLeft, testedPower}
+use Rattle.fourier.specs.Workers.{Accepted}
 use Rattle.fourier.proofs.Lines.{taken-accepted}
 use Rattle.fourier.proofs.power.Statement.{statement}
 use Rattle.fourier.proofs.power.Tie as tie
 
 -- the output that is tested, of n cells, is the list
 found : {k t : KindAnswer} {n : ℕ} (xs power : List ℤ) → k ≡ testedSpectrum (n ∷ []) xs → k ≡ t → n ≡ length power → testedPower xs power ≡ t
+unfolding testedPower
 found xs power e g p = sym (ap (λ (n : ℕ). testedSpectrum (n ∷ []) xs) p) ∙ sym e ∙ g
 
+accepted : (xs power : List ℤ) (kind : BlockKind) → testedPower xs power ≡ Taken kind → Accepted xs
+unfolding testedPower
+accepted xs power kind e = taken-accepted (length power ∷ []) xs kind e
+
 power-fits : (xs power : List ℤ) (kind : BlockKind) → testedPower xs power ≡ Taken kind → length power ≡ length xs / 2 + 1
+unfolding testedPower
 power-fits xs power kind e = output-fits (length xs / 2 + 1) (length power) [] (taken-fits _ _ (length power ∷ []) xs kind e) .0
 
 slice-aggregate-tested-spectrum : tie.Need-slice-aggregate-tested-spectrum
@@ -50,7 +57,7 @@ taken c = let s = c .before .before .before .before in found (now (s .args .spec
 
 fill-requires : tie.Need-fill-requires
 fill-requires c κs = let s = c .before .before .before .before .before in let e = taken (c .before) in
-    (taken-accepted (length (now (s .args .power)) ∷ []) _ _ e, power-fits _ (now (s .args .power)) _ e)
+    (accepted _ (now (s .args .power)) _ e, power-fits _ (now (s .args .power)) _ e)
 
 returns : tie.Need-returns
 returns c = let s = c .before .before .before .before .before in let e = refused (c .before) in
