@@ -1,7 +1,7 @@
 -- What the tests tell: a block that is taken has the length of its kind, no cell outside the limits and outputs that fit; and a block of
 -- which all that holds is taken.
 -- Example: `taken-quiet 32768 32767 32768 [] xs kind (omega arith) (omega arith) e i : natAbs (cell xs i) ≤ 32768`, with e : testedSamples xs ≡ Taken kind.
-use mathlib.Core.Path.{_≡_, refl, _∙_, ap}
+use mathlib.Core.Path.{_≡_, refl, ap}
 use mathlib.Core.Bool.{Bool, true, false, cond, not, _||_, true≢false}
 use mathlib.Core.List.{List, [], _∷_}
 use Prim.Native.Nat.{ℕ, zero, suc, _+_, _/_, _≤_}

@@ -43,7 +43,10 @@ same-sign true u s p q = ap (unlike true) q ∙ p
 same-sign false u s p q = ap (unlike false) q ∙ p
 
 not-zero : (m u n D : ℕ) → 0 < n → 0 < D → m * u * 1 ≡ n * D → T (not (eqb m 0))
-not-zero m u n D p q h = not-T (eqb m 0) (λ t. lt-irrefl 0 (subst (λ (x : ℕ). 0 < x) (sym h ∙ ap (λ (y : ℕ). y * u * 1) (eqb→eq m 0 t) ∙ ap (λ (y : ℕ). y * 1) (zero-mul u) ∙ zero-mul 1) (mul-pos p q)))
+not-zero m u n D p q h = not-T (eqb m 0) (λ t. lt-irrefl 0 (subst (λ (x : ℕ). 0 < x) (sym h ∙ zero t) (mul-pos p q)))
+  where
+    zero : T (eqb m 0) → m * u * 1 ≡ 0
+    zero t = ap (λ (y : ℕ). y * u * 1) (eqb→eq m 0 t) ∙ ap (λ (y : ℕ). y * 1) (zero-mul u) ∙ zero-mul 1
 
 div-at : (f : Format) (x y : Float) (s : Bool) (a n : ℕ) → 0 < n → HasValue x s a 1 → HasValue y false n 1 → div f x y ≡ round f s a n
 unfolding div
@@ -114,11 +117,14 @@ no-minus h n r v e p = go h (subst (λ (x : Float). HasValue x (negative h) (nat
     go (negsuc a) v = lt-irrefl 0 (subst (λ (x : ℕ). 0 < x) (sym (v .1) ∙ ap (λ (y : ℕ). y * n) (zero-mul (up e)) ∙ zero-mul n) (mul-pos (zero-lt-suc a) (down-pos e)))
 
 module _ (h : ℤ) (n : ℕ) (small : natAbs h < 2 ^ 53) (p : PowerOfTwo 53 n) where
+  n-pos : 0 < n
+  n-pos = subst (λ (x : ℕ). 0 < x) (sym (p .is)) (pow-pos (p .power))
+
   n-value : HasValue (ofInt binary64 (pos n)) false n 1
   n-value = whole-value (pos n) (power-small 53 n p)
 
   pub division-is : div binary64 (ofInt binary64 h) (ofInt binary64 (pos n)) ≡ quotient h n
-  division-is = div-at binary64 (ofInt binary64 h) (ofInt binary64 (pos n)) (negative h) (natAbs h) n (subst (λ (x : ℕ). 0 < x) (sym (p .is)) (pow-pos (p .power))) (whole-value h (le-of-lt small)) n-value
+  division-is = div-at binary64 (ofInt binary64 h) (ofInt binary64 (pos n)) (negative h) (natAbs h) n n-pos (whole-value h (le-of-lt small)) n-value
 
   quotient-value : HasValue (quotient h n) (negative h) (natAbs h) n
   quotient-value = subst (λ (x : ℕ). HasValue (quotient h x) (negative h) (natAbs h) x) (sym (p .is)) (over-power (negative h) (natAbs h) (p .power) small (p .few))

@@ -1,8 +1,8 @@
 -- A spectrum that is taken: what the machine reads of its cells, and which cells are H(v) and H(N − v).
 -- Example: `line-at xs 3 h : cell xs 3 ≡ H xs 3`, with h : 3 < length xs.
-use mathlib.Core.Path.{_≡_, refl, sym, ap, _∙_}
+use mathlib.Core.Path.{_≡_, sym, ap, _∙_}
 use mathlib.Core.List.{List}
-use Prim.Native.Nat.{ℕ, _+_, _-_, _/_, _%_, _^_, _≤_, _<_}
+use Prim.Native.Nat.{ℕ, _-_, _%_, _≤_, _<_}
 use native.Mathlib.Nat.{mod-lt, mod-self, mod-eq-of-lt, sub-zero}
 use native.Mathlib.Omega.{arith}
 use lib.IntN.{ℤ, pos, negℤ, natAbs}
@@ -13,7 +13,6 @@ use mir.Val.{toZ, ofZ}
 use Rattle.ints.proofs.Fit.{reads-back}
 use Rattle.refusal.specs.declared.BlockKind.{BlockKind}
 use Rattle.refusal.specs.declared.KindAnswer.the-variants.{Taken}
-use Rattle.refusal.proofs.Lengths.{Kind-length}
 use Rattle.block.specs.Cells.{cell, LOUDEST-LINE}
 use Rattle.block.specs.Tests.{testedSpectrum}
 use Rattle.block.proofs.Taken.{taken-kind, taken-quiet}

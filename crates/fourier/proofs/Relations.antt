@@ -15,7 +15,7 @@ use Rattle.ints.proofs.Tables.{getD-tabulate}
 use Rattle.block.specs.Cells.{cell}
 use Rattle.fourier.specs.declared.Part.{Part}
 use Rattle.fourier.specs.declared.Part.the-variants.{Real, Imaginary, Power}
-use Rattle.fourier.specs.Parts.{H, doubled, doubledLine, doubledLines}
+use Rattle.fourier.specs.Parts.{H, doubledLine, doubledLines}
 use Rattle.fourier.proofs.Lines.{line-at}
 
 -- ---- one line

@@ -12,7 +12,6 @@ use Rattle.refusal.specs.declared.KindAnswer.{KindAnswer}
 use Rattle.refusal.specs.declared.KindAnswer.the-variants.{Taken, Refused as Untaken}
 use Rattle.refusal.specs.declared.Line.{Line}
 use Rattle.refusal.specs.RefusalTable.{number, place}
-use Rattle.block.specs.Tests.{testedLine}
 use Rattle.fourier.specs.declared.Pair.{Pair as RealAndImaginary}
 use Rattle.fourier.specs.declared.Part.the-variants.{Real, Imaginary}
 use Rattle.fourier.specs.declared.ScaledLine.{ScaledLine}

@@ -16,7 +16,6 @@ use Rattle.ints.proofs.Tables.{alongside, alongside-at}
 use Rattle.refusal.specs.declared.BlockKind.{BlockKind}
 use Rattle.refusal.specs.declared.KindAnswer.the-variants.{Taken}
 use Rattle.refusal.specs.BlockKinds.{SCALE, SCALE-DIGITS}
-use Rattle.refusal.proofs.Lengths.{Kind-length}
 use Rattle.block.specs.Cells.{cell, LOUDEST-SAMPLE, LOUDEST-LINE}
 use Rattle.block.specs.Tests.{misfit, testedSamples, testedSpectrum}
 use Rattle.block.proofs.Taken.{taken-kind, taken-quiet, must-take}
@@ -47,7 +46,8 @@ forward-quiet P few xs quiet i = go (ltb i (2 ^ P)) (ltb→lt i (2 ^ P)) (nltb�
     go true f g = le-of-mul-le-mul-left {k = 65536} (le-trans (line-size in-force LOUDEST-SAMPLE (omega arith) P few xs quiet i (f tt)) (size P few)) (omega arith)
     go false f g = rw (List·getD-eq-default (forward P xs) (pos 0) {n = i} (rw (length-forward P xs) (g tt))) (omega arith)
 
-pub forward-taken : (outputs : List ℕ) (xs : List ℤ) (kind : BlockKind) → testedSamples xs ≡ Taken kind → misfit (length xs / 2 + 1) outputs ≡ false → testedSpectrum outputs (forward (kind .p) xs) ≡ Taken kind
+pub forward-taken : (outputs : List ℕ) (xs : List ℤ) (kind : BlockKind) → testedSamples xs ≡ Taken kind → misfit (length xs / 2 + 1) outputs ≡ false
+    → testedSpectrum outputs (forward (kind .p) xs) ≡ Taken kind
 forward-taken outputs xs kind e f = let k = taken-kind _ _ [] xs kind e in let long : length (forward (kind .p) xs) ≡ length xs = length-forward (kind .p) xs ∙ sym (k .cells) in
     must-take LOUDEST-LINE (kind .p) outputs (forward (kind .p) xs) (rw long k) (rw long f)
     (forward-quiet (kind .p) (k .most) xs (taken-quiet 32768 32767 LOUDEST-SAMPLE [] xs kind (omega arith) (omega arith) e))

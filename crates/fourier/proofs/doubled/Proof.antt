@@ -1,20 +1,17 @@
 -- `doubled` is right because no square is above 2^56, so nothing overflows and the machine's result is the exact one.
 use borrow.Author.Needs.{needs}
-use mathlib.Core.Path.{_≡_, sym, _∙_, ap}
+use mathlib.Core.Path.{_≡_}
 use mathlib.Core.List.{[], _∷_}
 use Prim.Native.Nat.{_^_, _≤_}
 use native.Mathlib.Nat.{mul-le-mul}
 use native.Mathlib.Omega.{arith}
 use lib.IntN.{ℤ, _+ℤ_, _-ℤ_, _*ℤ_, natAbs}
-use mir.Facts.{toZ-ofZ}
 use mir.Syntax.{w64}
 use mir.Val.{SFits, toZ, ofZ}
 use Rattle.ints.proofs.Ring.{ring, quotes}
 use Rattle.ints.proofs.Abs.{abs-plus, abs-minus, abs-times}
 use Rattle.ints.proofs.Fit.{fits, reads-back}
 use Rattle.block.specs.Cells.{LOUDEST-LINE}
-use Rattle.fourier.specs.declared.Part.{Part}
-use Rattle.fourier.specs.Parts.{doubled}
 use Rattle.fourier.proofs.doubled.Statement.{statement}
 use Rattle.fourier.proofs.doubled.Tie as tie
 

@@ -76,11 +76,12 @@ loop-less : tie.Need-loop-less Inv-loop μ-loop
 loop-less c = omega (arith, line-in (of-call c))
 
 loop-again : tie.Need-loop-again Inv-loop μ-loop
-loop-again c = let i = of-call c in let l = i .before .loop in let h = line-in i in (
+loop-again c = let i = of-call c in let s = i .before .before in let l = i .before .loop in let h = line-in i in (
   simp length-set (omega arith),
   mirror-later _ _ _ (omega arith) (omega (arith, h)) (omega arith),
   simp length-set (l .inv .2),
-  filled-then (pos 0) _ (l .lines) (l .v) _ _ _ (omega arith) (line-is (i .before .before .args .part) (l .v) (l .mirror) (i .before .before .pre .0) h (l .inv .1) (sfits-of (c .doubled .ok)) (c .doubled .ensures)) (omega arith) (omega arith) (l .inv .3),
+  filled-then (pos 0) _ (l .lines) (l .v) _ _ _ (omega arith)
+      (line-is (s .args .part) (l .v) (l .mirror) (s .pre .0) h (l .inv .1) (sfits-of (c .doubled .ok)) (c .doubled .ensures)) (omega arith) (omega arith) (l .inv .3),
 )
 
 same-length : tie.Need-same-length Inv-loop μ-loop

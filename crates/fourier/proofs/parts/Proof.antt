@@ -1,6 +1,6 @@
 -- `parts` is right because `tested_spectrum` finds the first fault or none, and `fill` leaves the lines of each part.
 use borrow.Author.Needs.{needs}
-use mathlib.Core.Path.{_≡_, refl, sym, _∙_, ap, ap₂}
+use mathlib.Core.Path.{_≡_, sym, _∙_, ap, ap₂}
 use mathlib.Core.Bool.{false}
 use mathlib.Core.List.{List, [], _∷_}
 use Prim.Native.Nat.{ℕ, _+_, _/_}
@@ -18,7 +18,7 @@ use Rattle.block.specs.declared.Answer.the-variants.{Refused}
 use Rattle.block.proofs.Taken.{output-fits, taken-fits}
 use Rattle.fourier.specs.declared.Part.{Part}
 use Rattle.fourier.specs.declared.Part.the-variants.{Real, Imaginary}
-use Rattle.fourier.specs.Parts.{doubledLines, linesLeft, testedParts}
+use Rattle.fourier.specs.Parts.{linesLeft, testedParts}
 use Rattle.fourier.specs.Workers.{Accepted}
 use Rattle.fourier.proofs.Lines.{taken-accepted}
 use Rattle.fourier.proofs.parts.Statement.{statement}
@@ -30,7 +30,8 @@ unfolding testedParts
 found xs real imaginary e g p q = sym (ap₂ (λ (m n : ℕ). testedSpectrum (m ∷ n ∷ []) xs) p q) ∙ sym e ∙ g
 
 -- a refusal: zs, what is left in a list, is what was lent
-module _ (xs real imaginary : List ℤ) (refusal : Refusal) {k : KindAnswer} {m n : ℕ} (e : k ≡ testedSpectrum (m ∷ n ∷ []) xs) (g : k ≡ Untaken refusal) (p : m ≡ length real) (q : n ≡ length imaginary) where
+module _ (xs real imaginary : List ℤ) (refusal : Refusal) {k : KindAnswer} {m n : ℕ}
+    (e : k ≡ testedSpectrum (m ∷ n ∷ []) xs) (g : k ≡ Untaken refusal) (p : m ≡ length real) (q : n ≡ length imaginary) where
   refused-answer : Refused refusal ≡ answerTo (testedParts xs real imaginary)
   refused-answer = sym (ap answerTo (found xs real imaginary e g p q))
 

@@ -1,15 +1,7 @@
 -- `quotient` is right because both casts and the division lose nothing (proofs/Exact).
-use mathlib.Core.Path.{_≡_, sym, _∙_, ap, subst}
 use native.Mathlib.Nat.{le-of-lt}
-use native.Mathlib.Omega.{arith}
-use Prim.Native.Nat.{ℕ}
-use lib.Dec.{T}
-use lib.Ieee.{Float, binary64, inFloat, div, ofInt}
-use lib.IntN.{ℤ, pos}
+use lib.IntN.{pos}
 use mir.Facts.{toZ-ofZ}
-use mir.Syntax.{w64}
-use mir.Val.{toZ, ofZ}
-use Rattle.fourier.specs.Scaled.{Exactly, quotient}
 use Rattle.fourier.proofs.Exact.{division-is, exactly, in-float, power-small}
 use Rattle.fourier.proofs.quotient.Statement.{statement}
 use Rattle.fourier.proofs.quotient.Tie as tie

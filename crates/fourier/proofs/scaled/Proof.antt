@@ -2,9 +2,7 @@
 use borrow.Author.Needs.{needs}
 use mathlib.Core.Path.{_≡_, sym, _∙_, ap}
 use mathlib.Core.List.{List, []}
-use Prim.Native.Nat.{_/_, _≤_}
 use lib.IntN.{ℤ}
-use lib.ListN.{length}
 use denote.Ref.{now}
 use Rattle.refusal.specs.declared.BlockKind.{BlockKind}
 use Rattle.refusal.specs.declared.KindAnswer.the-variants.{Taken, Refused as Untaken}

@@ -1,9 +1,9 @@
 -- `scaled_line` is right because it goes by the definition's cases in the definition's order, and each cell that it reads lies in the spectrum.
 use borrow.Author.Needs.{needs}
 use borrow.Author.Tests.{eq-eqb, ne-eqb}
-use mathlib.Core.Path.{_≡_, sym, _∙_, ap, ap₂}
+use mathlib.Core.Path.{_≡_, _∙_, ap, ap₂}
 use mathlib.Core.List.{List}
-use Prim.Native.Nat.{ℕ, _-_, _*_, _/_, _≤_, _<_, _^_}
+use Prim.Native.Nat.{ℕ, _-_, _/_, _≤_, _<_, _^_}
 use native.Mathlib.Omega.{arith}
 use lib.Ieee.{Float}
 use lib.IntN.{ℤ, natAbs}
@@ -85,7 +85,8 @@ scaled-pair-requires c κs = let s = c .before .before .before .before in let a 
 
 returns-3 : tie.Need-returns-3
 returns-3 c = let s = c .before .before .before .before .before in let a = s .pre .0 in let v = s .args .line .0 in
-    pair a v v (length (now (s .args .spectrum)) - v) (λ e. omega arith) (λ e. omega arith) (omega arith) (c .scaled-pair .ensures) (omega arith) (omega arith) (omega (arith, two-or-more a)) (omega arith) (omega arith)
+    pair a v v (length (now (s .args .spectrum)) - v) (λ e. omega arith) (λ e. omega arith) (omega arith) (c .scaled-pair .ensures)
+    (omega arith) (omega arith) (omega (arith, two-or-more a)) (omega arith) (omega arith)
 
 pub scaled-line-spec : {M : Type 1} → statement M
 scaled-line-spec =

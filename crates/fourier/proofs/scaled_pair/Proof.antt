@@ -37,7 +37,8 @@ module _ (h m : ℤ) (sh : natAbs h ≤ LOUDEST-LINE) (sm : natAbs m ≤ LOUDEST
 over : {x : Float} {z : ℤ} {n : ℕ} (len : ℕ) (w : ℤ) → x ≡ quotient z n → z ≡ w → n ≡ 2 * len → x ≡ quotient w (2 * len)
 over len w e f g = e ∙ ap₂ quotient f g
 
-both : {x y : Float} (len : ℕ) (h m : ℤ) → x ≡ quotient (doubled Real h m) (2 * len) → y ≡ quotient (doubled Imaginary h m) (2 * len) → _≡_ {A = Pair} (record { real = x; imaginary = y }) (scaledPair len h m)
+both : {x y : Float} (len : ℕ) (h m : ℤ) → x ≡ quotient (doubled Real h m) (2 * len) → y ≡ quotient (doubled Imaginary h m) (2 * len)
+    → _≡_ {A = Pair} (record { real = x; imaginary = y }) (scaledPair len h m)
 both len h m e f = ap₂ (λ (x y : Float). record { real = x; imaginary = y }) e f
 
 doubled-requires : tie.Need-doubled-requires
