@@ -1,6 +1,6 @@
--- What the tests tell: a block that is taken has the length of its kind, no cell outside the limits and outputs that fit; and a block of
+-- What the tests tell: a block that is taken has the length of its kind, no cell outside the limits and outputs that fit; and a spectrum of
 -- which all that holds is taken.
--- Example: `taken-quiet 32768 32767 32768 [] xs kind (omega arith) (omega arith) e i : natAbs (cell xs i) ≤ 32768`, with e : testedSamples xs ≡ Taken kind.
+-- Example: `samples-quiet xs kind e i : natAbs (cell xs i) ≤ LOUDEST-SAMPLE`, with e : testedSamples xs ≡ Taken kind.
 use mathlib.Core.Path.{_≡_, refl, ap}
 use mathlib.Core.Bool.{Bool, true, false, cond, not, _||_, true≢false}
 use mathlib.Core.List.{List, [], _∷_}
@@ -10,20 +10,20 @@ use borrow.Author.Tests.{eqb-true, le-ltb, ltb-false}
 use lib.Dec.{eqb, ltb}
 use lib.IntN.{ℤ, pos, negℤ, natAbs}
 use lib.ListN.{length}
-use lib.Signed.{ltZ, ltZ-yes, ltZ-no, clashℤ}
+use lib.Signed.{ltZ, ltZ-no}
 use Rattle.ints.proofs.Ring.{quotes}
-use Rattle.ints.proofs.Order.{_≼_, le-fact}
+use Rattle.ints.proofs.Order.{_≼_, le-fact, at-most-test}
 use Rattle.ints.proofs.Abs.{abs-fact, abs-lower, abs-upper}
 use Rattle.refusal.specs.declared.BlockKind.{BlockKind}
 use Rattle.refusal.specs.declared.KindAnswer.{KindAnswer}
 use Rattle.refusal.specs.declared.KindAnswer.the-variants.{Taken, Refused}
 use Rattle.refusal.specs.declared.Line.{Line}
 use Rattle.refusal.specs.declared.Refusal.{Refusal}
-use Rattle.refusal.specs.declared.Refusal.the-variants.{Misfit, Loud, Line as Beyond}
+use Rattle.refusal.specs.declared.Refusal.the-variants.{Misfit, Loud, Line as LineAbove}
 use Rattle.refusal.specs.BlockKinds.{kindOf}
 use Rattle.refusal.proofs.Lengths.{Kind-length, kind-length, kind-given}
-use Rattle.block.specs.Cells.{cell}
-use Rattle.block.specs.Tests.{refusedIf, misfit, firstLoud, tested, testedSpectrum, testedLine}
+use Rattle.block.specs.Cells.{cell, LOUDEST-SAMPLE, LOUDEST-LINE}
+use Rattle.block.specs.Tests.{refusedIf, misfit, firstLoud, tested, testedSamples, testedSpectrum, testedLine}
 
 -- ---- a list with no loud cell
 
@@ -85,20 +85,19 @@ pub taken-quiet : (a b m : ℕ) (outputs : List ℕ) (xs : List ℤ) (kind : Blo
     → (i : ℕ) → natAbs (cell xs i) ≤ m
 taken-quiet a b m outputs xs kind ha hb e = quiet a b m ha hb xs (ltb-false _ _ (quiet-then (negℤ (pos a)) (pos b) outputs xs kind e .0))
 
+pub samples-quiet : (xs : List ℤ) (kind : BlockKind) → testedSamples xs ≡ Taken kind → (i : ℕ) → natAbs (cell xs i) ≤ LOUDEST-SAMPLE
+samples-quiet xs kind e = taken-quiet 32768 32767 LOUDEST-SAMPLE [] xs kind (omega arith) (omega arith) e
+
+pub spectrum-quiet : (outputs : List ℕ) (xs : List ℤ) (kind : BlockKind) → testedSpectrum outputs xs ≡ Taken kind → (i : ℕ) → natAbs (cell xs i) ≤ LOUDEST-LINE
+spectrum-quiet outputs xs kind e = taken-quiet LOUDEST-LINE LOUDEST-LINE LOUDEST-LINE outputs xs kind (omega arith) (omega arith) e
+
 pub taken-line : (line : Line) (xs : List ℤ) (kind : BlockKind) → testedLine line xs ≡ Taken kind → (testedSpectrum [] xs ≡ Taken kind) × (line .0 ≤ length xs / 2)
-taken-line line xs kind e = let p = passed (ltb (length xs / 2) (line .0)) (Beyond line) (testedSpectrum [] xs) kind e in (p .1, ltb-false _ _ (p .0))
+taken-line line xs kind e = let p = passed (ltb (length xs / 2) (line .0)) (LineAbove line) (testedSpectrum [] xs) kind e in (p .1, ltb-false _ _ (p .0))
 
 -- ---- and a block that must be taken
 
-not-below : (a b : ℤ) → b ≼ a → ltZ a b ≡ false
-not-below a b h = go (ltZ a b) refl
-  where
-    go : (t : Bool) → ltZ a b ≡ t → t ≡ false
-    go true e = clashℤ (ltZ-yes (rw e tt)) h
-    go false e = refl
-
 within : (m : ℕ) (x : ℤ) → natAbs x ≤ m → (ltZ x (negℤ (pos m)) ≡ false) × (ltZ (pos m) x ≡ false)
-within m x h = (not-below x (negℤ (pos m)) (abs-lower h), not-below (pos m) x (abs-upper h))
+within m x h = (at-most-test x (negℤ (pos m)) (abs-lower h), at-most-test (pos m) x (abs-upper h))
 
 all-quiet : (m : ℕ) (xs : List ℤ) → ((i : ℕ) → natAbs (cell xs i) ≤ m) → firstLoud (negℤ (pos m)) (pos m) xs ≡ length xs
 unfolding firstLoud

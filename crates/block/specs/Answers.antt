@@ -8,12 +8,12 @@ use Rattle.refusal.specs.RefusalTable.{number, place}
 use Rattle.block.specs.declared.Answer.{Answer}
 use Rattle.block.specs.declared.Answer.the-variants.{Done, Refused}
 
--- done where the block is taken
+-- the answer: done where what is lent is taken, else the refusal
 abbrev pub answerTo : KindAnswer → Answer
 answerTo (Taken kind) = Done
 answerTo (Untaken refusal) = Refused refusal
 
--- the list that the call leaves: its result, which goes by the block's P, or the lent list where it refuses
+-- the list that the call leaves: its result, which may depend on P, or the lent list where it refuses
 abbrev pub cellsLeft : (ℕ → List ℤ) → List ℤ → KindAnswer → List ℤ
 cellsLeft result lent (Taken kind) = result (kind .p)
 cellsLeft result lent (Untaken refusal) = lent

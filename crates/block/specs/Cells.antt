@@ -1,5 +1,5 @@
--- Cells are a list, those of a block or of a spectrum; `cell xs i` is cell i. With document 01, Refused input, 3: how loud they may be, as
--- magnitudes.
+-- Cells are a list, of a block or of a spectrum; `cell xs i` is cell i, and 0 beyond the last. With document 01, Refused input, 3: how loud they
+-- may be, as magnitudes.
 use mathlib.Core.List.{List}
 use Prim.Native.Nat.{ℕ, _^_}
 use lib.IntN.{ℤ, pos}
@@ -8,10 +8,10 @@ use lib.ListN.{getD}
 abbrev pub cell : List ℤ → ℕ → ℤ
 cell xs i = getD xs i (pos 0)
 
--- a sample is -32,768 to 32,767
+-- the largest magnitude of a sample, which is -32,768 to 32,767
 abbrev pub LOUDEST-SAMPLE : ℕ
 LOUDEST-SAMPLE = 32768
 
--- a line of a spectrum that is lent is within ±2^28
+-- the largest magnitude of a line of a lent spectrum
 abbrev pub LOUDEST-LINE : ℕ
 LOUDEST-LINE = 2 ^ 28

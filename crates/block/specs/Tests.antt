@@ -10,7 +10,7 @@ use Rattle.refusal.specs.declared.KindAnswer.{KindAnswer}
 use Rattle.refusal.specs.declared.KindAnswer.the-variants.{Taken, Refused}
 use Rattle.refusal.specs.declared.Line.{Line}
 use Rattle.refusal.specs.declared.Refusal.{Refusal}
-use Rattle.refusal.specs.declared.Refusal.the-variants.{Misfit, Loud, Line as Beyond}
+use Rattle.refusal.specs.declared.Refusal.the-variants.{Misfit, Loud, Line as LineAbove}
 use Rattle.refusal.specs.BlockKinds.{kindOf}
 use Rattle.block.specs.Cells.{LOUDEST-LINE}
 
@@ -19,7 +19,7 @@ abbrev pub refusedIf : Bool → Refusal → KindAnswer → KindAnswer
 refusedIf fault refusal (Taken kind) = cond fault (Refused refusal) (Taken kind)
 refusedIf fault refusal (Refused earlier) = Refused earlier
 
--- 2, misfit: whether one of the lent outputs, of so many cells each, has not as many as wanted
+-- 2, misfit: whether some lent output has not the wanted number of cells; an output is given by its number of cells
 unfoldable pub misfit : ℕ → List ℕ → Bool
 misfit wanted [] = false
 misfit wanted (n ∷ ns) = not (eqb n wanted) || misfit wanted ns
@@ -39,14 +39,14 @@ tested low high outputs xs =
     let after-2 = refusedIf (misfit (N / 2 + 1) outputs) Misfit after-1 in
     refusedIf (ltb place N) (Loud place) after-2
 
--- what forward takes: cells of -32,768 to 32,767
+-- forward: cells of -32,768 to 32,767
 abbrev pub testedSamples : List ℤ → KindAnswer
 testedSamples xs = tested (negℤ (pos 32768)) (pos 32767) [] xs
 
--- what any call takes that takes a spectrum: cells within ±2^28
+-- any call that takes a spectrum: cells within ±2^28
 abbrev pub testedSpectrum : List ℕ → List ℤ → KindAnswer
 testedSpectrum outputs xs = tested (negℤ (pos LOUDEST-LINE)) (pos LOUDEST-LINE) outputs xs
 
--- and 4, where a line is asked for: it is above N/2
+-- and then 4, line: the line that is asked for is above N/2
 abbrev pub testedLine : Line → List ℤ → KindAnswer
-testedLine line xs = refusedIf (ltb (length xs / 2) (line .0)) (Beyond line) (testedSpectrum [] xs)
+testedLine line xs = refusedIf (ltb (length xs / 2) (line .0)) (LineAbove line) (testedSpectrum [] xs)

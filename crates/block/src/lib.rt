@@ -12,8 +12,8 @@ const LEAST_SAMPLE: i64 = -32768;
 // The largest sample.
 const LARGEST_SAMPLE: i64 = 32767;
 
-// The largest line of a spectrum, to either side: 2^28.
-const LARGEST_LINE: i64 = 268435456;
+// How loud a line of a lent spectrum may be, to either side: 2^28.
+const LOUDEST_LINE: i64 = 268435456;
 
 // What a call on a block answers.
 pub enum Answer {
@@ -32,7 +32,7 @@ pub fn tested_samples(cells: &[i64]) -> KindAnswer
 pub fn tested_spectrum(cells: &[i64], outputs: &[usize]) -> KindAnswer
     ensures { λ r. ⌜ r ≡ testedSpectrum (now (outputs .entry)) (now (cells .entry)) ⌝ }
 {
-    tested(cells, -LARGEST_LINE, LARGEST_LINE, outputs)
+    tested(cells, -LOUDEST_LINE, LOUDEST_LINE, outputs)
 }
 
 // The kind of a spectrum of which a line is asked, or the first fault.

@@ -1,5 +1,5 @@
 -- A whole number below 2^53 in size, over a power of two, is an f64 exactly, and the machine's division finds it.
--- Example: `exactly (negsuc 9) 4 small (record { power = 2; few = omega arith; is = refl }) .value` says that the f64 nearest to -10 / 4 is -10 / 4.
+-- Example: `exactly (negsuc 9) 4 small (record { exponent = 2; few = omega arith; is = refl }) .value` says that the f64 nearest to -10 / 4 is -10 / 4.
 use mathlib.Core.Path.{_≡_, refl, sym, ap, _∙_, subst}
 use mathlib.Core.Bool.{Bool, true, false, not, true≢false}
 use Prim.Native.Nat.{ℕ, suc, _+_, _-_, _*_, _^_, _<_, _≤_}
@@ -17,7 +17,7 @@ use lib.Ieee.Exact.{HasValue, round-exact}
 use Rattle.fourier.specs.Scaled.{negative, quotient, Exactly}
 use Rattle.fourier.specs.Workers.{PowerOfTwo}
 
--- ---- fractions: A / E is a, B / D is n, and so A / E over B / D is a / n, and a / n times n is a
+-- ---- fractions: where A / E is a and B / D is n, the quotient is a / n (`over`); where A / E is a / n and B / D is n, the product is a (`times`)
 
 over : (A B a n E D : ℕ) → A * 1 ≡ a * E → B * 1 ≡ n * D → A * D * n ≡ a * (B * E)
 over A B a n E D p q =
@@ -94,7 +94,7 @@ in-float (negsuc n) p = lt→ltb n (2 ^ 53) p
 pub power-small : (most n : ℕ) → PowerOfTwo most n → n ≤ 2 ^ most
 power-small most n p = subst (λ (x : ℕ). x ≤ 2 ^ most) (sym (p .is)) (pow-mono (p .few))
 
--- ---- nothing is rounded: a / 2^k is a × 2^(1074 − k) of the smallest values of f64, which are 2^−1074
+-- ---- nothing is rounded: the smallest f64 is 2^−1074, and a / 2^k is a × 2^(1074 − k) of it
 
 room : (k : ℕ) → 53 + (1074 - k) ≤ 2098
 room k = omega arith
@@ -118,7 +118,7 @@ no-minus h n r v e p = go h (subst (λ (x : Float). HasValue x (negative h) (nat
 
 module _ (h : ℤ) (n : ℕ) (small : natAbs h < 2 ^ 53) (p : PowerOfTwo 53 n) where
   n-pos : 0 < n
-  n-pos = subst (λ (x : ℕ). 0 < x) (sym (p .is)) (pow-pos (p .power))
+  n-pos = subst (λ (x : ℕ). 0 < x) (sym (p .is)) (pow-pos (p .exponent))
 
   n-value : HasValue (ofInt binary64 (pos n)) false n 1
   n-value = whole-value (pos n) (power-small 53 n p)
@@ -127,11 +127,14 @@ module _ (h : ℤ) (n : ℕ) (small : natAbs h < 2 ^ 53) (p : PowerOfTwo 53 n) w
   division-is = div-at binary64 (ofInt binary64 h) (ofInt binary64 (pos n)) (negative h) (natAbs h) n n-pos (whole-value h (le-of-lt small)) n-value
 
   quotient-value : HasValue (quotient h n) (negative h) (natAbs h) n
-  quotient-value = subst (λ (x : ℕ). HasValue (quotient h x) (negative h) (natAbs h) x) (sym (p .is)) (over-power (negative h) (natAbs h) (p .power) small (p .few))
+  quotient-value = subst (λ (x : ℕ). HasValue (quotient h x) (negative h) (natAbs h) x) (sym (p .is)) (over-power (negative h) (natAbs h) (p .exponent) small (p .few))
+
+  product-is : mul binary64 (quotient h n) (ofInt binary64 (pos n)) ≡ ofInt binary64 h
+  product-is = mul-at binary64 (quotient h n) (ofInt binary64 (pos n)) (negative h) (natAbs h) n quotient-value n-value ∙ whole-is h
 
   pub exactly : Exactly h n (quotient h n)
   exactly = record {
     value = quotient-value;
-    back = mul-at binary64 (quotient h n) (ofInt binary64 (pos n)) (negative h) (natAbs h) n quotient-value n-value ∙ whole-is h;
+    back = subst (λ (x : Float). HasValue x (negative h) (natAbs h) 1) (sym product-is) (whole-value h (le-of-lt small));
     no-minus-zero = no-minus h n (quotient h n) quotient-value;
   }

@@ -1,3 +1,4 @@
+pub mod Sizes
 pub mod Exact
 pub mod Lines
 pub mod Values

@@ -8,30 +8,31 @@ use native.Mathlib.Omega.{arith}
 use lib.IntN.{ℤ, pos, negℤ, natAbs}
 use lib.ListN.{length}
 use lib.Pow.{pow-mono}
+use mir.Facts.{toZ-ofZ}
 use mir.Syntax.{w64}
 use mir.Val.{toZ, ofZ}
-use Rattle.ints.proofs.Fit.{reads-back}
 use Rattle.refusal.specs.declared.BlockKind.{BlockKind}
 use Rattle.refusal.specs.declared.KindAnswer.the-variants.{Taken}
 use Rattle.block.specs.Cells.{cell, LOUDEST-LINE}
 use Rattle.block.specs.Tests.{testedSpectrum}
-use Rattle.block.proofs.Taken.{taken-kind, taken-quiet}
+use Rattle.block.proofs.Taken.{taken-kind, spectrum-quiet}
 use Rattle.fourier.specs.Parts.{H}
 use Rattle.fourier.specs.Workers.{Accepted, PowerOfTwo}
+use Rattle.fourier.proofs.Sizes.{line-fits}
 
 pub taken-accepted : (outputs : List ℕ) (xs : List ℤ) (kind : BlockKind) → testedSpectrum outputs xs ≡ Taken kind → Accepted xs
 taken-accepted outputs xs kind e = let k = taken-kind (negℤ (pos LOUDEST-LINE)) (pos LOUDEST-LINE) outputs xs kind e in
-    record { P = kind .p; least = k .least; most = k .most; long = k .cells; quiet = taken-quiet LOUDEST-LINE LOUDEST-LINE LOUDEST-LINE outputs xs kind (omega arith) (omega arith) e }
+    record { P = kind .p; least = k .least; most = k .most; long = k .cells; quiet = spectrum-quiet outputs xs kind e }
 
 module _ {xs : List ℤ} (a : Accepted xs) where
   pub power-of-two : (most : ℕ) → 10 ≤ most → PowerOfTwo most (length xs)
-  power-of-two most h = record { power = a .P; few = omega arith; is = a .long }
+  power-of-two most h = record { exponent = a .P; few = omega arith; is = a .long }
 
   pub two-or-more : 2 ≤ length xs
   two-or-more = rw (a .long) (pow-mono {i = 1} (a .least))
 
   pub line-back : (i : ℕ) → toZ w64 (ofZ w64 (cell xs i)) ≡ cell xs i
-  line-back i = reads-back (cell xs i) LOUDEST-LINE (omega arith) (a .quiet i)
+  line-back i = toZ-ofZ (line-fits (cell xs i) (a .quiet i))
 
   pub line-quiet : (i : ℕ) → natAbs (toZ w64 (ofZ w64 (cell xs i))) ≤ LOUDEST-LINE
   line-quiet i = rw (line-back i) (a .quiet i)

@@ -13,8 +13,8 @@ use Rattle.ints.proofs.Ring.{ring, quotes}
 use Rattle.ints.proofs.Order.{eq-fact, eq-goal}
 use Rattle.ints.proofs.Tables.{getD-tabulate}
 use Rattle.block.specs.Cells.{cell}
-use Rattle.fourier.specs.declared.Part.{Part}
-use Rattle.fourier.specs.declared.Part.the-variants.{Real, Imaginary, Power}
+use Rattle.fourier.specs.declared.Doubled.{Doubled}
+use Rattle.fourier.specs.declared.Doubled.the-variants.{Real, Imaginary, Power}
 use Rattle.fourier.specs.Parts.{H, doubledLine, doubledLines}
 use Rattle.fourier.proofs.Lines.{line-at}
 
@@ -44,10 +44,10 @@ halved : (a b : ℤ) → pos 2 *ℤ a ≡ pos 2 *ℤ b → a ≡ b
 halved a b e = let Γ = a ∷ b ∷ [] in eq-goal Γ (search quotes) (omega (arith, eq-fact Γ e (search quotes)))
 
 module _ (xs ys : List ℤ) (long : length xs ≡ length ys) (re : doubledLines Real xs ≡ doubledLines Real ys) (im : doubledLines Imaginary xs ≡ doubledLines Imaginary ys) where
-  same-part : (part : Part) → doubledLines part xs ≡ doubledLines part ys → (v : ℕ) → v ≤ length xs / 2 → doubledLine part xs v ≡ doubledLine part ys v
-  same-part part e v h = sym (getD-tabulate (length xs / 2 + 1) (doubledLine part xs) (pos 0) v (omega arith))
+  same-part : (which : Doubled) → doubledLines which xs ≡ doubledLines which ys → (v : ℕ) → v ≤ length xs / 2 → doubledLine which xs v ≡ doubledLine which ys v
+  same-part which e v h = sym (getD-tabulate (length xs / 2 + 1) (doubledLine which xs) (pos 0) v (omega arith))
       ∙ ap (λ zs. getD zs v (pos 0)) e
-      ∙ getD-tabulate (length ys / 2 + 1) (doubledLine part ys) (pos 0) v (omega arith)
+      ∙ getD-tabulate (length ys / 2 + 1) (doubledLine which ys) (pos 0) v (omega arith)
 
   same-line : (v : ℕ) → v ≤ length xs / 2 → H xs v ≡ H ys v
   same-line v h = halved (H xs v) (H ys v) (sym (line-from-parts xs v) ∙ ap₂ _-ℤ_ (same-part Real re v h) (same-part Imaginary im v h) ∙ line-from-parts ys v)
@@ -63,5 +63,5 @@ module _ (xs ys : List ℤ) (long : length xs ≡ length ys) (re : doubledLines 
       go true f g = same-line i (f tt)
       go false f g = ap (H xs) (omega arith) ∙ same-mirror (length xs - i) (omega (arith, g tt)) ∙ ap (H ys) (omega arith)
 
-  pub parts-fix : xs ≡ ys
-  parts-fix = ext-getD (pos 0) xs ys long same-cell
+  pub spectrum-from-parts : xs ≡ ys
+  spectrum-from-parts = ext-getD (pos 0) xs ys long same-cell

@@ -4,19 +4,18 @@ use refusal::KindAnswer;
 use refusal::Line;
 use refusal::Refusal;
 ghost use mathlib.Core.Path.{_≡_};
-ghost use Prim.Native.Nat.{_+_, _*_, _/_, _^_, _≤_, _<_};
+ghost use Prim.Native.Nat.{_+_, _/_, _^_, _≤_, _<_};
 ghost use lib.IntN.{natAbs};
 ghost use lib.ListN.{length};
 ghost use Rattle.block.specs.Cells.{LOUDEST-LINE};
 ghost use Rattle.block.specs.Tests.{testedLine};
 ghost use Rattle.block.specs.Answers.{answerTo, firstFault, numbers};
-ghost use Rattle.fourier.specs.Parts.{doubled, doubledLines, linesLeft, testedParts, testedPower};
-ghost use Rattle.fourier.specs.Scaled.{Exactly, lineNumbers, quotient, scaledLine, scaledPair, scaledTo, Values};
-ghost use Rattle.fourier.specs.Workers.{Accepted, PowerOfTwo};
-ghost use Rattle.fourier.specs.declared.Part.the-variants.{Real, Imaginary, Power};
+ghost use Rattle.fourier.specs.Parts.{formula, doubledLines, imaginaryLeft, powersLeft, realLeft, testedParts, testedPower};
+ghost use Rattle.fourier.specs.Scaled.{Exactly, quotient, scaledLine, scaledNumbers, scaledTo, Values};
+ghost use Rattle.fourier.specs.Workers.{Accepted, PowerOfTwo, scaledPair};
 
-// What is had, doubled, from a line and its mirror.
-pub enum Part {
+// The three doubled values of a line.
+pub enum Doubled {
     Real,
     Imaginary,
     Power,
@@ -40,29 +39,29 @@ pub enum ScaledLine {
 pub fn parts(spectrum: &[i64], real: &mut [i64], imaginary: &mut [i64]) -> Answer
     ensures answer { λ r. ⌜ r ≡ answerTo (testedParts (now (spectrum .entry)) (now (real .entry)) (now (imaginary .entry))) ⌝ }
     ensures numbers { λ r. ⌜ numbers r ≡ firstFault (testedParts (now (spectrum .entry)) (now (real .entry)) (now (imaginary .entry))) ⌝ }
-    ensures real { λ _. ⌜ now (real .exit) ≡ linesLeft Real (now (spectrum .entry)) (now (real .entry)) (testedParts (now (spectrum .entry)) (now (real .entry)) (now (imaginary .entry))) ⌝ }
-    ensures imaginary { λ _. ⌜ now (imaginary .exit) ≡ linesLeft Imaginary (now (spectrum .entry)) (now (imaginary .entry)) (testedParts (now (spectrum .entry)) (now (real .entry)) (now (imaginary .entry))) ⌝ }
+    ensures real { λ _. ⌜ now (real .exit) ≡ realLeft (now (spectrum .entry)) (now (real .entry)) (now (imaginary .entry)) ⌝ }
+    ensures imaginary { λ _. ⌜ now (imaginary .exit) ≡ imaginaryLeft (now (spectrum .entry)) (now (real .entry)) (now (imaginary .entry)) ⌝ }
 {
     match block::tested_spectrum(spectrum, &[real.len(), imaginary.len()]) {
         KindAnswer::Refused(refusal) => Answer::Refused(refusal),
         KindAnswer::Taken(_) => {
-            fill(spectrum, real, Part::Real);
-            fill(spectrum, imaginary, Part::Imaginary);
+            fill(spectrum, real, Doubled::Real);
+            fill(spectrum, imaginary, Doubled::Imaginary);
             Answer::Done
         }
     }
 }
 
 // The doubled power of a spectrum, for lines 0 to N/2, in a lent list.
-pub fn power(spectrum: &[i64], power: &mut [i64]) -> Answer
-    ensures answer { λ r. ⌜ r ≡ answerTo (testedPower (now (spectrum .entry)) (now (power .entry))) ⌝ }
-    ensures numbers { λ r. ⌜ numbers r ≡ firstFault (testedPower (now (spectrum .entry)) (now (power .entry))) ⌝ }
-    ensures power { λ _. ⌜ now (power .exit) ≡ linesLeft Power (now (spectrum .entry)) (now (power .entry)) (testedPower (now (spectrum .entry)) (now (power .entry))) ⌝ }
+pub fn power(spectrum: &[i64], powers: &mut [i64]) -> Answer
+    ensures answer { λ r. ⌜ r ≡ answerTo (testedPower (now (spectrum .entry)) (now (powers .entry))) ⌝ }
+    ensures numbers { λ r. ⌜ numbers r ≡ firstFault (testedPower (now (spectrum .entry)) (now (powers .entry))) ⌝ }
+    ensures powers { λ _. ⌜ now (powers .exit) ≡ powersLeft (now (spectrum .entry)) (now (powers .entry)) ⌝ }
 {
-    match block::tested_spectrum(spectrum, &[power.len()]) {
+    match block::tested_spectrum(spectrum, &[powers.len()]) {
         KindAnswer::Refused(refusal) => Answer::Refused(refusal),
         KindAnswer::Taken(_) => {
-            fill(spectrum, power, Part::Power);
+            fill(spectrum, powers, Doubled::Power);
             Answer::Done
         }
     }
@@ -71,7 +70,7 @@ pub fn power(spectrum: &[i64], power: &mut [i64]) -> Answer
 // A line of a spectrum, scaled.
 pub fn scaled(spectrum: &[i64], line: Line) -> ScaledLine
     ensures answer { λ r. ⌜ r ≡ scaledTo (now (spectrum .entry)) line (testedLine line (now (spectrum .entry))) ⌝ }
-    ensures numbers { λ r. ⌜ lineNumbers r ≡ firstFault (testedLine line (now (spectrum .entry))) ⌝ }
+    ensures numbers { λ r. ⌜ scaledNumbers r ≡ firstFault (testedLine line (now (spectrum .entry))) ⌝ }
     ensures values { λ r. ⌜ Values (now (spectrum .entry)) line r ⌝ }
 {
     match block::tested_line(spectrum, line) {
@@ -80,29 +79,29 @@ pub fn scaled(spectrum: &[i64], line: Line) -> ScaledLine
     }
 }
 
-// The lines 0 to N/2 of a part. The mirror of line 0 is line 0, that of line v is line N - v.
-fn fill(spectrum: &[i64], lines: &mut [i64], part: Part)
+// Fills the list with one of the three for lines 0 to N/2. The mirror of line 0 is line 0, that of line v is line N - v.
+fn fill(spectrum: &[i64], lines: &mut [i64], which: Doubled)
     requires { ⌜ Accepted (now spectrum) × (length (now lines) ≡ length (now spectrum) / 2 + 1) ⌝ }
-    ensures { λ _. ⌜ now (lines .exit) ≡ doubledLines part (now (spectrum .entry)) ⌝ }
+    ensures { λ _. ⌜ now (lines .exit) ≡ doubledLines which (now (spectrum .entry)) ⌝ }
 {
     let mut v = 0;
     let mut mirror = 0;
     while v < lines.len() {
-        lines[v] = doubled(part, spectrum[v], spectrum[mirror]);
+        lines[v] = formula(which, spectrum[v], spectrum[mirror]);
         v += 1;
         mirror = spectrum.len() - v;
     }
 }
 
-// A part of a line and its mirror.
-fn doubled(part: Part, line: i64, mirror: i64) -> i64
-    requires { ⌜ (natAbs line ≤ LOUDEST-LINE) × (natAbs mirror ≤ LOUDEST-LINE) ⌝ }
-    ensures { λ r. ⌜ r ≡ doubled part line mirror ⌝ }
+// One of the three for a line, from h, H(v), and m, H(N - v).
+fn formula(which: Doubled, h: i64, m: i64) -> i64
+    requires { ⌜ (natAbs h ≤ LOUDEST-LINE) × (natAbs m ≤ LOUDEST-LINE) ⌝ }
+    ensures { λ r. ⌜ r ≡ formula which h m ⌝ }
 {
-    match part {
-        Part::Real => line + mirror,
-        Part::Imaginary => mirror - line,
-        Part::Power => line * line + mirror * mirror,
+    match which {
+        Doubled::Real => h + m,
+        Doubled::Imaginary => m - h,
+        Doubled::Power => h * h + m * m,
     }
 }
 
@@ -122,14 +121,14 @@ fn scaled_line(spectrum: &[i64], line: Line) -> ScaledLine
     ScaledLine::Pair(scaled_pair(spectrum[v], spectrum[len - v], len))
 }
 
-// The real and the imaginary part of a line and its mirror, of len cells: the doubled part over 2 len.
-fn scaled_pair(line: i64, mirror: i64, len: usize) -> Pair
-    requires { ⌜ (natAbs line ≤ LOUDEST-LINE) × (natAbs mirror ≤ LOUDEST-LINE) × PowerOfTwo 10 len ⌝ }
-    ensures { λ r. ⌜ r ≡ scaledPair len line mirror ⌝ }
+// The real and the imaginary part of a line, each the doubled part over 2N; h is H(v), m is H(N - v), and len is N.
+fn scaled_pair(h: i64, m: i64, len: usize) -> Pair
+    requires { ⌜ (natAbs h ≤ LOUDEST-LINE) × (natAbs m ≤ LOUDEST-LINE) × PowerOfTwo 10 len ⌝ }
+    ensures { λ r. ⌜ r ≡ scaledPair len h m ⌝ }
 {
     Pair {
-        real: quotient(doubled(Part::Real, line, mirror), 2 * len),
-        imaginary: quotient(doubled(Part::Imaginary, line, mirror), 2 * len),
+        real: quotient(formula(Doubled::Real, h, m), 2 * len),
+        imaginary: quotient(formula(Doubled::Imaginary, h, m), 2 * len),
     }
 }
 

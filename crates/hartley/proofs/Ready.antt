@@ -5,7 +5,6 @@ use Prim.Native.Nat.{ℕ, _≤_}
 use lib.IntN.{ℤ, pos, negℤ}
 use Rattle.refusal.specs.declared.BlockKind.{BlockKind}
 use Rattle.refusal.specs.declared.KindAnswer.the-variants.{Taken}
-use Rattle.refusal.proofs.Lengths.{Kind-length}
 use Rattle.block.specs.Cells.{LOUDEST-LINE}
 use Rattle.block.specs.Tests.{tested}
 use Rattle.block.proofs.Taken.{taken-kind, taken-quiet}

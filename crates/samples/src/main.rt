@@ -143,13 +143,13 @@ fn parts_of(spectrum: &[i64], real: &mut [i64], imaginary: &mut [i64]) {
 }
 
 // The same for power.
-fn power_of(spectrum: &[i64], power: &mut [i64]) {
+fn power_of(spectrum: &[i64], powers: &mut [i64]) {
     print(b"power of");
     print_cells(spectrum);
     print(b":");
-    print_answer(fourier::power(spectrum, power));
+    print_answer(fourier::power(spectrum, powers));
     print(b", power");
-    print_cells(power);
+    print_cells(powers);
     print(b"\n");
 }
 
@@ -172,25 +172,35 @@ fn scaled_of(spectrum: &[i64], line: usize) {
     print(b"\n");
 }
 
-// A word and an f64 in thousandths, cut to a whole number, with a minus before what is negative and before minus zero.
+// A word and an f64, with a minus before what is negative and before minus zero.
 fn print_value(word: &[u8], x: f64) {
     print(word);
     if x < 0.0 || 1.0 / x < 0.0 {
         print(b"-");
     }
-    print_thousandths(if x < 0.0 { -x } else { x });
+    print_size(if x < 0.0 { -x } else { x });
 }
 
-fn print_thousandths(x: f64) {
+// An f64 that is not negative, cut to three decimals.
+fn print_size(x: f64) {
     let thousandths = x * 1000.0;
     if thousandths > -1.0 {
         if thousandths < 18446744073709551616.0 {
-            io::print_decimal(STDOUT_FILENO, std::num::truncating_f64_to_u64(thousandths));
+            print_decimals(std::num::truncating_f64_to_u64(thousandths));
         }
     }
 }
 
-fn lines() {
+fn print_decimals(thousandths: u64) {
+    io::print_decimal(STDOUT_FILENO, thousandths / 1000);
+    print(b".");
+    io::print_decimal(STDOUT_FILENO, thousandths / 100 % 10);
+    io::print_decimal(STDOUT_FILENO, thousandths / 10 % 10);
+    io::print_decimal(STDOUT_FILENO, thousandths % 10);
+}
+
+// The parts and powers of the listing's block first.
+fn parts_and_powers() {
     parts_of(&[10, -4, -2, 0], &mut [7; 3], &mut [7; 3]);
     power_of(&[10, -4, -2, 0], &mut [7; 3]);
     parts_of(&[-2, 8], &mut [7; 2], &mut [7; 2]);
@@ -203,6 +213,7 @@ fn lines() {
     power_of(&[0, -268435457], &mut [7; 2]);
 }
 
+// Every line of four cells and of two, a zero, and lines that there are not.
 fn scaled_lines() {
     scaled_of(&[10, -4, -2, 0], 0);
     scaled_of(&[10, -4, -2, 0], 1);
@@ -275,6 +286,6 @@ fn main() {
     length_of(BlockKind::LARGEST);
     blocks();
     lengths();
-    lines();
+    parts_and_powers();
     scaled_lines();
 }

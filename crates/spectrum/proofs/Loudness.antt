@@ -18,7 +18,7 @@ use Rattle.refusal.specs.declared.KindAnswer.the-variants.{Taken}
 use Rattle.refusal.specs.BlockKinds.{SCALE, SCALE-DIGITS}
 use Rattle.block.specs.Cells.{cell, LOUDEST-SAMPLE, LOUDEST-LINE}
 use Rattle.block.specs.Tests.{misfit, testedSamples, testedSpectrum}
-use Rattle.block.proofs.Taken.{taken-kind, taken-quiet, must-take}
+use Rattle.block.proofs.Taken.{taken-kind, samples-quiet, must-take}
 use Rattle.spectrum.specs.Spectrum.{tableCosine, tableSine, forwardAt, forward}
 use Rattle.spectrum.specs.Levels.{permuted, transformed}
 use Rattle.spectrum.specs.Distance.{bound}
@@ -30,6 +30,7 @@ pub length-forward : (P : ℕ) (xs : List ℤ) → length (forward P xs) ≡ 2 ^
 unfolding forward forwardAt transformed
 length-forward P xs = length-levels (rounded SCALE) (tableCosine SCALE-DIGITS) (tableSine SCALE-DIGITS) P (permuted P xs) ∙ length-permuted P xs
 
+-- what the magnitude law allows, times 65,536, for each P: √2 is below 92,682 / 65,536
 sizes : T (alongside leb (tabulate 11 (λ P. 92682 * (2 ^ P * LOUDEST-SAMPLE) + 65536 * bound SCALE LOUDEST-SAMPLE P)) (tabulate 11 (λ P. 65536 * LOUDEST-LINE)))
 unfolding alongside tabulate bound
 sizes = tt
@@ -50,4 +51,4 @@ pub forward-taken : (outputs : List ℕ) (xs : List ℤ) (kind : BlockKind) → 
     → testedSpectrum outputs (forward (kind .p) xs) ≡ Taken kind
 forward-taken outputs xs kind e f = let k = taken-kind _ _ [] xs kind e in let long : length (forward (kind .p) xs) ≡ length xs = length-forward (kind .p) xs ∙ sym (k .cells) in
     must-take LOUDEST-LINE (kind .p) outputs (forward (kind .p) xs) (rw long k) (rw long f)
-    (forward-quiet (kind .p) (k .most) xs (taken-quiet 32768 32767 LOUDEST-SAMPLE [] xs kind (omega arith) (omega arith) e))
+    (forward-quiet (kind .p) (k .most) xs (samples-quiet xs kind e))

@@ -16,7 +16,7 @@ use mir.Syntax.{w64}
 use mir.Val.{toZ, ofZ}
 use denote.Ref.{now}
 use Rattle.ints.proofs.Ring.{quotes}
-use Rattle.ints.proofs.Order.{_≼_, _≺_, le-fact, lt-fact, negativePart, positivePart}
+use Rattle.ints.proofs.Order.{_≼_, _≺_, le-fact, lt-fact, le-goal, at-most-test, negativePart, positivePart}
 use Rattle.block.specs.Cells.{cell}
 use Rattle.block.specs.Tests.{firstLoud}
 use Rattle.block.proofs.first_loud.Statement.{statement}
@@ -50,11 +50,7 @@ less-test a b h = go (ltZ a b) refl
     go false e = absurd (omega tests)
 
 not-less-test : (a b : ℤ) → AtMost b a → ltZ a b ≡ false
-not-less-test a b h = go (ltZ a b) refl
-  where
-    go : (t : Bool) → ltZ a b ≡ t → t ≡ false
-    go true e = absurd (omega tests)
-    go false e = refl
+not-less-test a b h = at-most-test a b (le-goal (b ∷ a ∷ []) (search quotes) (omega arith))
 
 -- ---- the definition from cell i on
 

@@ -13,21 +13,21 @@ use Rattle.refusal.specs.declared.BlockKind.{BlockKind}
 use Rattle.refusal.specs.declared.KindAnswer.{KindAnswer}
 use Rattle.refusal.specs.declared.KindAnswer.the-variants.{Taken, Refused}
 use Rattle.refusal.specs.declared.Line.{Line}
-use Rattle.refusal.specs.declared.Refusal.the-variants.{Line as Beyond}
+use Rattle.refusal.specs.declared.Refusal.the-variants.{Line as LineAbove}
 use Rattle.block.specs.Tests.{refusedIf, testedSpectrum, testedLine}
 use Rattle.block.proofs.tested_line.Statement.{statement}
 use Rattle.block.proofs.tested_line.Tie as tie
 
 -- k is what the spectrum's tests have found
 module _ (line : Line) (xs : List ℤ) {k : KindAnswer} (e : k ≡ testedSpectrum [] xs) where
-  first : (found : KindAnswer) → k ≡ found → refusedIf (ltb (length xs / 2) (line .0)) (Beyond line) found ≡ testedLine line xs
-  first found g = ap (refusedIf (ltb (length xs / 2) (line .0)) (Beyond line)) (sym g ∙ e)
+  first : (found : KindAnswer) → k ≡ found → refusedIf (ltb (length xs / 2) (line .0)) (LineAbove line) found ≡ testedLine line xs
+  first found g = ap (refusedIf (ltb (length xs / 2) (line .0)) (LineAbove line)) (sym g ∙ e)
 
   -- the answer by the outcome of the comparison
-  by : (kind : BlockKind) (t : Bool) → k ≡ Taken kind → ltb (length xs / 2) (line .0) ≡ t → refusedIf t (Beyond line) (Taken kind) ≡ testedLine line xs
-  by kind t g h = sym (ap (λ (u : Bool). refusedIf u (Beyond line) (Taken kind)) h) ∙ first (Taken kind) g
+  by : (kind : BlockKind) (t : Bool) → k ≡ Taken kind → ltb (length xs / 2) (line .0) ≡ t → refusedIf t (LineAbove line) (Taken kind) ≡ testedLine line xs
+  by kind t g h = sym (ap (λ (u : Bool). refusedIf u (LineAbove line) (Taken kind)) h) ∙ first (Taken kind) g
 
-  beyond : (kind : BlockKind) → k ≡ Taken kind → length xs / 2 < line .0 → Refused (Beyond line) ≡ testedLine line xs
+  beyond : (kind : BlockKind) → k ≡ Taken kind → length xs / 2 < line .0 → Refused (LineAbove line) ≡ testedLine line xs
   beyond kind g h = by kind true g (lt-ltb _ _ h)
 
   within : (kind : BlockKind) → k ≡ Taken kind → line .0 ≤ length xs / 2 → Taken kind ≡ testedLine line xs

@@ -12,53 +12,53 @@ use mir.Val.{SFits, toZ, ofZ}
 use denote.Ref.{now}
 use Rattle.ints.proofs.Filling.{Filled, filled-then, filled-all}
 use Rattle.block.specs.Cells.{cell}
-use Rattle.fourier.specs.declared.Part.{Part}
-use Rattle.fourier.specs.Parts.{doubled, doubledLine}
+use Rattle.fourier.specs.declared.Doubled.{Doubled}
+use Rattle.fourier.specs.Parts.{formula, doubledLine}
 use Rattle.fourier.specs.Workers.{Accepted}
 use Rattle.fourier.proofs.Lines.{two-or-more, line-back, line-quiet, line-at, mirror-at, mirror-in, mirror-first, mirror-later}
 use Rattle.fourier.proofs.fill.Statement.{statement}
 use Rattle.fourier.proofs.fill.Tie as tie
 
 -- r is what `doubled` makes of what is read of line v and of its mirror
-line-is : {xs : List ℤ} (part : Part) (v mirror : ℕ) {r : ℤ} → Accepted xs → v < length xs → mirror ≡ (length xs - v) % length xs → SFits w64 r
-    → r ≡ doubled part (toZ w64 (ofZ w64 (cell xs v))) (toZ w64 (ofZ w64 (cell xs mirror))) → toZ w64 (ofZ w64 r) ≡ doubledLine part xs v
-line-is {xs} part v mirror a h m f e = toZ-ofZ f ∙ e ∙ ap₂ (doubled part) (line-back a v ∙ line-at xs v h) (line-back a mirror ∙ mirror-at xs v mirror m)
+line-is : {xs : List ℤ} (which : Doubled) (v mirror : ℕ) {r : ℤ} → Accepted xs → v < length xs → mirror ≡ (length xs - v) % length xs → SFits w64 r
+    → r ≡ formula which (toZ w64 (ofZ w64 (cell xs v))) (toZ w64 (ofZ w64 (cell xs mirror))) → toZ w64 (ofZ w64 r) ≡ doubledLine which xs v
+line-is {xs} which v mirror a h m f e = toZ-ofZ f ∙ e ∙ ap₂ (formula which) (line-back a v ∙ line-at xs v h) (line-back a mirror ∙ mirror-at xs v mirror m)
 
 abbrev Inv-loop : tie.InvT-loop
-Inv-loop spectrum lines₀ part v₀ mirror₀ lines v mirror =
-    (v ≤ length lines) × (mirror ≡ (length spectrum - v) % length spectrum) × (length lines ≡ length spectrum / 2 + 1) × Filled (pos 0) (doubledLine part spectrum) v lines
+Inv-loop spectrum lines₀ which v₀ mirror₀ lines v mirror =
+    (v ≤ length lines) × (mirror ≡ (length spectrum - v) % length spectrum) × (length lines ≡ length spectrum / 2 + 1) × Filled (pos 0) (doubledLine which spectrum) v lines
 
 abbrev μ-loop : tie.MeasureT-loop
-μ-loop spectrum lines₀ part v₀ mirror₀ lines v mirror = length spectrum - v
+μ-loop spectrum lines₀ which v₀ mirror₀ lines v mirror = length spectrum - v
 
 loop-holds : tie.Need-loop-holds Inv-loop μ-loop
-loop-holds c = (omega arith, mirror-first _ _ _ (omega arith) (omega arith), c .pre .1, λ k h. absurd (omega arith))
+loop-holds c = (omega arith, mirror-first _ _ _ (omega arith) (omega (arith, two-or-more (c .pre .0))), c .pre .1, λ k h. absurd (omega arith))
 
 -- the round to which a point of the body belongs
-abbrev of-call : tie.After-doubled Inv-loop μ-loop → tie.In-loop Inv-loop μ-loop
+abbrev of-call : tie.After-formula Inv-loop μ-loop → tie.In-loop Inv-loop μ-loop
 of-call c = c .before .before .before
 
 -- line v lies in the spectrum, and so does its mirror
 line-in : (c : tie.In-loop Inv-loop μ-loop) → c .before .loop .v < length (now (c .before .before .args .spectrum))
 line-in c = omega (arith, two-or-more (c .before .before .pre .0))
 
-mirror-lies : (c : tie.In-loop Inv-loop μ-loop) → c .before .loop .mirror < length (now (c .before .before .args .spectrum))
-mirror-lies c = let l = c .before .loop in mirror-in _ (l .v) _ (two-or-more (c .before .before .pre .0)) (l .inv .1)
+mirror-within : (c : tie.In-loop Inv-loop μ-loop) → c .before .loop .mirror < length (now (c .before .before .args .spectrum))
+mirror-within c = let l = c .before .loop in mirror-in _ (l .v) _ (two-or-more (c .before .before .pre .0)) (l .inv .1)
 
-mul-doubled : tie.Need-mul-doubled Inv-loop μ-loop
-mul-doubled c = let h = line-in c in search needs
+mul-formula : tie.Need-mul-formula Inv-loop μ-loop
+mul-formula c = let h = line-in c in search needs
 
-shared-slice-copy-out-doubled : tie.Need-shared-slice-copy-out-doubled Inv-loop μ-loop
-shared-slice-copy-out-doubled c = line-in c
+shared-slice-copy-out-formula : tie.Need-shared-slice-copy-out-formula Inv-loop μ-loop
+shared-slice-copy-out-formula c = line-in c
 
-mul-doubled-2 : tie.Need-mul-doubled-2 Inv-loop μ-loop
-mul-doubled-2 c = let h = mirror-lies (c .before) in search needs
+mul-formula-2 : tie.Need-mul-formula-2 Inv-loop μ-loop
+mul-formula-2 c = let h = mirror-within (c .before) in search needs
 
-shared-slice-copy-out-doubled-2 : tie.Need-shared-slice-copy-out-doubled-2 Inv-loop μ-loop
-shared-slice-copy-out-doubled-2 c = mirror-lies (c .before)
+shared-slice-copy-out-formula-2 : tie.Need-shared-slice-copy-out-formula-2 Inv-loop μ-loop
+shared-slice-copy-out-formula-2 c = mirror-within (c .before)
 
-doubled-requires : tie.Need-doubled-requires Inv-loop μ-loop
-doubled-requires c κs = let i = c .before .before in let a = i .before .before .pre .0 in (line-quiet a (i .before .loop .v), line-quiet a (i .before .loop .mirror))
+formula-requires : tie.Need-formula-requires Inv-loop μ-loop
+formula-requires c κs = let i = c .before .before in let a = i .before .before .pre .0 in (line-quiet a (i .before .loop .v), line-quiet a (i .before .loop .mirror))
 
 mul-t14 : tie.Need-mul-t14 Inv-loop μ-loop
 mul-t14 c = search needs
@@ -81,7 +81,7 @@ loop-again c = let i = of-call c in let s = i .before .before in let l = i .befo
   mirror-later _ _ _ (omega arith) (omega (arith, h)) (omega arith),
   simp length-set (l .inv .2),
   filled-then (pos 0) _ (l .lines) (l .v) _ _ _ (omega arith)
-      (line-is (s .args .part) (l .v) (l .mirror) (s .pre .0) h (l .inv .1) (sfits-of (c .doubled .ok)) (c .doubled .ensures)) (omega arith) (omega arith) (l .inv .3),
+      (line-is (s .args .which) (l .v) (l .mirror) (s .pre .0) h (l .inv .1) (sfits-of (c .formula .ok)) (c .formula .ensures)) (omega arith) (omega arith) (l .inv .3),
 )
 
 same-length : tie.Need-same-length Inv-loop μ-loop
@@ -97,11 +97,11 @@ fill-spec =
     Inv-loop
     μ-loop
     loop-holds
-    mul-doubled
-    shared-slice-copy-out-doubled
-    mul-doubled-2
-    shared-slice-copy-out-doubled-2
-    doubled-requires
+    mul-formula
+    shared-slice-copy-out-formula
+    mul-formula-2
+    shared-slice-copy-out-formula-2
+    formula-requires
     mul-t14
     slice-set-from-lines
     add-v

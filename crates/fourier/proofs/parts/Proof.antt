@@ -16,8 +16,8 @@ use Rattle.block.specs.Tests.{misfit, testedSpectrum}
 use Rattle.block.specs.Answers.{answerTo, firstFault, numbers}
 use Rattle.block.specs.declared.Answer.the-variants.{Refused}
 use Rattle.block.proofs.Taken.{output-fits, taken-fits}
-use Rattle.fourier.specs.declared.Part.{Part}
-use Rattle.fourier.specs.declared.Part.the-variants.{Real, Imaginary}
+use Rattle.fourier.specs.declared.Doubled.{Doubled}
+use Rattle.fourier.specs.declared.Doubled.the-variants.{Real, Imaginary}
 use Rattle.fourier.specs.Parts.{linesLeft, testedParts}
 use Rattle.fourier.specs.Workers.{Accepted}
 use Rattle.fourier.proofs.Lines.{taken-accepted}
@@ -38,8 +38,8 @@ module _ (xs real imaginary : List ℤ) (refusal : Refusal) {k : KindAnswer} {m 
   refused-numbers : numbers (Refused refusal) ≡ firstFault (testedParts xs real imaginary)
   refused-numbers = sym (ap firstFault (found xs real imaginary e g p q))
 
-  refused-list : (part : Part) (lent zs : List ℤ) → zs ≡ lent → zs ≡ linesLeft part xs lent (testedParts xs real imaginary)
-  refused-list part lent zs kept = kept ∙ sym (ap (linesLeft part xs lent) (found xs real imaginary e g p q))
+  refused-list : (which : Doubled) (lent zs : List ℤ) → zs ≡ lent → zs ≡ linesLeft which xs lent (testedParts xs real imaginary)
+  refused-list which lent zs kept = kept ∙ sym (ap (linesLeft which xs lent) (found xs real imaginary e g p q))
 
 -- what follows for a spectrum xs and two lists that are taken
 module _ (xs real imaginary : List ℤ) (kind : BlockKind) (e : testedParts xs real imaginary ≡ Taken kind) where

@@ -13,7 +13,7 @@ use Rattle.refusal.specs.declared.KindAnswer.the-variants.{Taken, Refused as Un
 use Rattle.block.specs.Tests.{testedSpectrum}
 use Rattle.block.specs.Answers.{answerTo, firstFault}
 use Rattle.block.proofs.Taken.{output-fits, taken-fits}
-use Rattle.fourier.specs.declared.Part.the-variants.{Power}
+use Rattle.fourier.specs.declared.Doubled.the-variants.{Power}
 use Rattle.fourier.specs.Parts.{linesLeft, testedPower}
 use Rattle.fourier.specs.Workers.{Accepted}
 use Rattle.fourier.proofs.Lines.{taken-accepted}
@@ -21,17 +21,17 @@ use Rattle.fourier.proofs.power.Statement.{statement}
 use Rattle.fourier.proofs.power.Tie as tie
 
 -- the output that is tested, of n cells, is the list
-found : {k t : KindAnswer} {n : ℕ} (xs power : List ℤ) → k ≡ testedSpectrum (n ∷ []) xs → k ≡ t → n ≡ length power → testedPower xs power ≡ t
+found : {k t : KindAnswer} {n : ℕ} (xs powers : List ℤ) → k ≡ testedSpectrum (n ∷ []) xs → k ≡ t → n ≡ length powers → testedPower xs powers ≡ t
 unfolding testedPower
-found xs power e g p = sym (ap (λ (n : ℕ). testedSpectrum (n ∷ []) xs) p) ∙ sym e ∙ g
+found xs powers e g p = sym (ap (λ (n : ℕ). testedSpectrum (n ∷ []) xs) p) ∙ sym e ∙ g
 
-accepted : (xs power : List ℤ) (kind : BlockKind) → testedPower xs power ≡ Taken kind → Accepted xs
+accepted : (xs powers : List ℤ) (kind : BlockKind) → testedPower xs powers ≡ Taken kind → Accepted xs
 unfolding testedPower
-accepted xs power kind e = taken-accepted (length power ∷ []) xs kind e
+accepted xs powers kind e = taken-accepted (length powers ∷ []) xs kind e
 
-power-fits : (xs power : List ℤ) (kind : BlockKind) → testedPower xs power ≡ Taken kind → length power ≡ length xs / 2 + 1
+power-fits : (xs powers : List ℤ) (kind : BlockKind) → testedPower xs powers ≡ Taken kind → length powers ≡ length xs / 2 + 1
 unfolding testedPower
-power-fits xs power kind e = output-fits (length xs / 2 + 1) (length power) [] (taken-fits _ _ (length power ∷ []) xs kind e) .0
+power-fits xs powers kind e = output-fits (length xs / 2 + 1) (length powers) [] (taken-fits _ _ (length powers ∷ []) xs kind e) .0
 
 slice-aggregate-tested-spectrum : tie.Need-slice-aggregate-tested-spectrum
 slice-aggregate-tested-spectrum c = search needs
@@ -47,28 +47,28 @@ enum-told c = search needs
 
 -- what the tests have found
 abbrev tests : tie.Start → KindAnswer
-tests s = testedPower (now (s .args .spectrum)) (now (s .args .power))
+tests s = testedPower (now (s .args .spectrum)) (now (s .args .powers))
 
 refused : (c : tie.After-refusal) → tests (c .before .before .before .before) ≡ Untaken (c .refusal .given .0 .0)
-refused c = let s = c .before .before .before .before in found (now (s .args .spectrum)) (now (s .args .power)) (c .before .before .tested-spectrum .ensures) (c .refusal .given .1) (omega arith)
+refused c = let s = c .before .before .before .before in found (now (s .args .spectrum)) (now (s .args .powers)) (c .before .before .tested-spectrum .ensures) (c .refusal .given .1) (omega arith)
 
 taken : (c : tie.After-enum-told) → tests (c .before .before .before .before) ≡ Taken (c .enum-told .given .0 .0)
-taken c = let s = c .before .before .before .before in found (now (s .args .spectrum)) (now (s .args .power)) (c .before .before .tested-spectrum .ensures) (c .enum-told .given .1) (omega arith)
+taken c = let s = c .before .before .before .before in found (now (s .args .spectrum)) (now (s .args .powers)) (c .before .before .tested-spectrum .ensures) (c .enum-told .given .1) (omega arith)
 
 fill-requires : tie.Need-fill-requires
 fill-requires c κs = let s = c .before .before .before .before .before in let e = taken (c .before) in
-    (accepted _ (now (s .args .power)) _ e, power-fits _ (now (s .args .power)) _ e)
+    (accepted _ (now (s .args .powers)) _ e, power-fits _ (now (s .args .powers)) _ e)
 
 returns : tie.Need-returns
 returns c = let s = c .before .before .before .before .before in let e = refused (c .before) in
-    (sym (ap answerTo e), (sym (ap firstFault e), sym (ap (linesLeft Power (now (s .args .spectrum)) (now (s .args .power))) e)))
+    (sym (ap answerTo e), (sym (ap firstFault e), sym (ap (linesLeft Power (now (s .args .spectrum)) (now (s .args .powers))) e)))
 
 same-length : tie.Need-same-length
 same-length c = search needs
 
 returns-2 : tie.Need-returns-2
 returns-2 c = let t = c .before .before .before in let s = t .before .before .before .before in let e = taken t in
-    (sym (ap answerTo e), (sym (ap firstFault e), c .before .fill .ensures ∙ sym (ap (linesLeft Power (now (s .args .spectrum)) (now (s .args .power))) e)))
+    (sym (ap answerTo e), (sym (ap firstFault e), c .before .fill .ensures ∙ sym (ap (linesLeft Power (now (s .args .spectrum)) (now (s .args .powers))) e)))
 
 pub power-spec : {M : Type 1} → statement M
 power-spec =

@@ -11,7 +11,7 @@ use Rattle.block.specs.Tests.{testedLine}
 use Rattle.block.specs.Answers.{firstFault}
 use Rattle.block.proofs.Taken.{taken-line}
 use Rattle.fourier.specs.declared.ScaledLine.{ScaledLine}
-use Rattle.fourier.specs.Scaled.{lineNumbers, scaledLine, scaledTo, Values}
+use Rattle.fourier.specs.Scaled.{scaledNumbers, scaledLine, scaledTo, Values}
 use Rattle.fourier.specs.Workers.{Accepted}
 use Rattle.fourier.proofs.Lines.{taken-accepted}
 use Rattle.fourier.proofs.Values.{values, no-numbers}
@@ -27,8 +27,8 @@ module _ (xs : List ℤ) (line : Line) (kind : BlockKind) (e : testedLine line x
     answer : r ≡ scaledTo xs line (testedLine line xs)
     answer = f ∙ sym (ap (scaledTo xs line) e)
 
-    numbers : lineNumbers r ≡ firstFault (testedLine line xs)
-    numbers = ap lineNumbers f ∙ no-numbers xs (line .0) ∙ sym (ap firstFault e)
+    numbers : scaledNumbers r ≡ firstFault (testedLine line xs)
+    numbers = ap scaledNumbers f ∙ no-numbers xs (line .0) ∙ sym (ap firstFault e)
 
     exact : Values xs line r
     exact = rw f (values accepted line)

@@ -15,8 +15,8 @@ use Rattle.block.specs.Cells.{cell}
 use Rattle.fourier.specs.declared.Pair.{Pair as RealAndImaginary}
 use Rattle.fourier.specs.declared.ScaledLine.the-variants.{Mean, Last, Pair}
 use Rattle.fourier.specs.Parts.{H}
-use Rattle.fourier.specs.Scaled.{quotient, scaledPair, scaledLine}
-use Rattle.fourier.specs.Workers.{Accepted}
+use Rattle.fourier.specs.Scaled.{quotient, scaledLine}
+use Rattle.fourier.specs.Workers.{Accepted, scaledPair}
 use Rattle.fourier.proofs.Lines.{power-of-two, two-or-more, line-back, line-quiet, line-at, mirror-at, mirror-later}
 use Rattle.fourier.proofs.scaled_line.Statement.{statement}
 use Rattle.fourier.proofs.scaled_line.Tie as tie

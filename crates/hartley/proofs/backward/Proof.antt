@@ -8,7 +8,6 @@ use lib.IntN.{ℤ}
 use denote.Ref.{now}
 use Rattle.ints.specs.Quotient.{rounded}
 use Rattle.refusal.specs.declared.BlockKind.{BlockKind}
-use Rattle.refusal.specs.declared.KindAnswer.{KindAnswer}
 use Rattle.refusal.specs.declared.KindAnswer.the-variants.{Taken}
 use Rattle.spectrum.specs.Spectrum.{backward}
 use Rattle.block.specs.Cells.{LOUDEST-LINE}

@@ -12,12 +12,12 @@ use Rattle.refusal.specs.declared.BlockKind.{BlockKind}
 use Rattle.refusal.specs.declared.KindAnswer.{KindAnswer}
 use Rattle.refusal.specs.declared.KindAnswer.the-variants.{Taken, Refused as Untaken}
 use Rattle.refusal.specs.declared.Refusal.{Refusal}
-use Rattle.block.specs.Cells.{cell, LOUDEST-SAMPLE}
+use Rattle.block.specs.Cells.{cell}
 use Rattle.block.specs.Tests.{testedSamples}
 use Rattle.block.specs.Answers.{answerTo, cellsLeft, firstFault, numbers}
 use Rattle.block.specs.declared.Answer.{Answer}
 use Rattle.block.specs.declared.Answer.the-variants.{Done, Refused}
-use Rattle.block.proofs.Taken.{taken-kind, taken-quiet}
+use Rattle.block.proofs.Taken.{taken-kind, samples-quiet}
 use Rattle.spectrum.specs.Spectrum.{forward}
 use Rattle.spectrum.specs.Distance.{WithinE}
 use Rattle.spectrum.proofs.Demand3.{demand-3, forward-first}
@@ -46,7 +46,7 @@ module _ (xs ys : List ℤ) (refusal : Refusal) {k : KindAnswer} (e : k ≡ test
 module _ (xs : List ℤ) (kind : BlockKind) (e : testedSamples xs ≡ Taken kind) where
   near : (P : ℕ) × (length xs ≡ 2 ^ P) × WithinE P xs (forward (kind .p) xs)
   near = let k = taken-kind _ _ [] xs kind e in
-      (kind .p, k .cells, demand-3 (kind .p) (k .most) xs (k .cells) (taken-quiet 32768 32767 LOUDEST-SAMPLE [] xs kind (omega arith) (omega arith) e))
+      (kind .p, k .cells, demand-3 (kind .p) (k .most) xs (k .cells) (samples-quiet xs kind e))
 
   first : cell (forward (kind .p) xs) 0 ≡ sum (length xs) (cell xs)
   first = forward-first (kind .p) xs ∙ ap (λ (n : ℕ). sum n (cell xs)) (sym (taken-kind _ _ [] xs kind e .cells))
