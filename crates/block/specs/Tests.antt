@@ -12,7 +12,7 @@ use Rattle.refusal.specs.declared.Line.{Line}
 use Rattle.refusal.specs.declared.Refusal.{Refusal}
 use Rattle.refusal.specs.declared.Refusal.the-variants.{Misfit, Loud, Line as LineAbove}
 use Rattle.refusal.specs.BlockKinds.{kindOf}
-use Rattle.block.specs.Cells.{LOUDEST-LINE}
+use Rattle.block.specs.Cells.{LEAST-SAMPLE, LARGEST-SAMPLE, LOUDEST-LINE}
 
 -- one test more: a kind that was taken so far is refused where there is a fault, and an earlier refusal stays
 abbrev pub refusedIf : Bool → Refusal → KindAnswer → KindAnswer
@@ -41,7 +41,7 @@ tested low high outputs xs =
 
 -- forward: cells of -32,768 to 32,767
 abbrev pub testedSamples : List ℤ → KindAnswer
-testedSamples xs = tested (negℤ (pos 32768)) (pos 32767) [] xs
+testedSamples xs = tested LEAST-SAMPLE LARGEST-SAMPLE [] xs
 
 -- any call that takes a spectrum: cells within ±2^28
 abbrev pub testedSpectrum : List ℕ → List ℤ → KindAnswer

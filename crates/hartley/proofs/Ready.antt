@@ -1,16 +1,20 @@
--- A block that is taken within 2^28 is ready for the levels.
+-- A block that is taken, of samples or of lines, is ready for the levels.
 use mathlib.Core.Path.{_≡_}
-use mathlib.Core.List.{List}
-use Prim.Native.Nat.{ℕ, _≤_}
-use lib.IntN.{ℤ, pos, negℤ}
+use mathlib.Core.List.{List, []}
+use Prim.Native.Nat.{ℕ}
+use native.Mathlib.Nat.{le-trans}
+use native.Mathlib.Omega.{arith}
+use lib.IntN.{ℤ}
 use Rattle.refusal.specs.declared.BlockKind.{BlockKind}
 use Rattle.refusal.specs.declared.KindAnswer.the-variants.{Taken}
-use Rattle.block.specs.Cells.{LOUDEST-LINE}
-use Rattle.block.specs.Tests.{tested}
-use Rattle.block.proofs.Taken.{taken-kind, taken-quiet}
+use Rattle.block.specs.Tests.{testedSamples, testedSpectrum}
+use Rattle.block.proofs.Taken.{taken-kind, samples-quiet, spectrum-quiet}
 use Rattle.hartley.specs.Workers.{Ready}
 
-pub taken-ready : (a b : ℕ) (outputs : List ℕ) (xs : List ℤ) (kind : BlockKind) → a ≤ LOUDEST-LINE → b ≤ LOUDEST-LINE → tested (negℤ (pos a)) (pos b) outputs xs ≡ Taken kind
-    → Ready (kind .p) xs
-taken-ready a b outputs xs kind ha hb e = let k = taken-kind (negℤ (pos a)) (pos b) outputs xs kind e in
-    record { most = k .most; long = k .cells; quiet = record { size = taken-quiet a b LOUDEST-LINE outputs xs kind ha hb e } }
+pub samples-ready : (xs : List ℤ) (kind : BlockKind) → testedSamples xs ≡ Taken kind → Ready (kind .p) xs
+samples-ready xs kind e = let k = taken-kind _ _ [] xs kind e in
+    record { most = k .most; long = k .cells; quiet = record { size = λ i. le-trans (samples-quiet xs kind e i) (omega arith) } }
+
+pub spectrum-ready : (outputs : List ℕ) (xs : List ℤ) (kind : BlockKind) → testedSpectrum outputs xs ≡ Taken kind → Ready (kind .p) xs
+spectrum-ready outputs xs kind e = let k = taken-kind _ _ outputs xs kind e in
+    record { most = k .most; long = k .cells; quiet = record { size = spectrum-quiet outputs xs kind e } }

@@ -3,17 +3,15 @@ use borrow.Author.Needs.{needs}
 use mathlib.Core.Path.{_≡_, sym, _∙_, ap}
 use mathlib.Core.List.{List, [], map}
 use Prim.Native.Nat.{_^_}
-use native.Mathlib.Omega.{arith}
 use lib.IntN.{ℤ}
 use denote.Ref.{now}
 use Rattle.ints.specs.Quotient.{rounded}
 use Rattle.refusal.specs.declared.BlockKind.{BlockKind}
 use Rattle.refusal.specs.declared.KindAnswer.the-variants.{Taken}
 use Rattle.spectrum.specs.Spectrum.{backward}
-use Rattle.block.specs.Cells.{LOUDEST-LINE}
 use Rattle.block.specs.Tests.{testedSpectrum}
 use Rattle.block.specs.Answers.{answerTo, cellsLeft, firstFault}
-use Rattle.hartley.proofs.Ready.{taken-ready}
+use Rattle.hartley.proofs.Ready.{spectrum-ready}
 use Rattle.hartley.proofs.backward.Statement.{statement}
 use Rattle.hartley.proofs.backward.Tie as tie
 
@@ -38,7 +36,7 @@ enum-known-kind : tie.Need-enum-known-kind
 enum-known-kind c = search needs
 
 transform-requires : tie.Need-transform-requires
-transform-requires c κs = taken-ready LOUDEST-LINE LOUDEST-LINE [] _ _ (omega arith) (omega arith) (taken (c .before .before))
+transform-requires c κs = spectrum-ready [] _ _ (taken (c .before .before))
 
 divide-requires : tie.Need-divide-requires
 divide-requires c κs = search needs

@@ -21,7 +21,7 @@ use Rattle.block.proofs.Taken.{taken-kind, samples-quiet}
 use Rattle.spectrum.specs.Spectrum.{forward}
 use Rattle.spectrum.specs.Distance.{WithinE}
 use Rattle.spectrum.proofs.Demand3.{demand-3, forward-first}
-use Rattle.hartley.proofs.Ready.{taken-ready}
+use Rattle.hartley.proofs.Ready.{samples-ready}
 use Rattle.hartley.proofs.forward.Statement.{statement}
 use Rattle.hartley.proofs.forward.Tie as tie
 
@@ -65,7 +65,7 @@ enum-known-kind : tie.Need-enum-known-kind
 enum-known-kind c = search needs
 
 transform-requires : tie.Need-transform-requires
-transform-requires c κs = taken-ready 32768 32767 [] _ _ (omega arith) (omega arith) (taken (c .before .before))
+transform-requires c κs = samples-ready _ _ (taken (c .before .before))
 
 same-length : tie.Need-same-length
 same-length c = search needs
