@@ -12,7 +12,8 @@ use lib.IntN.{ℤ, pos, negℤ, natAbs}
 use lib.ListN.{length}
 use lib.Signed.{ltZ, ltZ-no}
 use Rattle.ints.proofs.Ring.{quotes}
-use Rattle.ints.proofs.Order.{_≼_, le-fact, at-most-test}
+use Rattle.ints.proofs.Order.{_≼_, le-fact}
+use Rattle.ints.proofs.Comparisons.{at-most-test}
 use Rattle.ints.proofs.Abs.{abs-fact, abs-lower, abs-upper}
 use Rattle.refusal.specs.declared.BlockKind.{BlockKind}
 use Rattle.refusal.specs.declared.KindAnswer.{KindAnswer}
@@ -23,6 +24,7 @@ use Rattle.refusal.specs.declared.Refusal.the-variants.{Misfit, Loud, Line as L
 use Rattle.refusal.specs.BlockKinds.{kindOf}
 use Rattle.refusal.proofs.Lengths.{Kind-length, kind-length, kind-given}
 use Rattle.block.specs.Cells.{cell, LOUDEST-SAMPLE, LOUDEST-LINE}
+use Rattle.block.specs.Accepted.{Accepted}
 use Rattle.block.specs.Tests.{refusedIf, misfit, firstLoud, tested, testedSamples, testedSpectrum, testedLine}
 
 -- ---- a list with no loud cell
@@ -81,15 +83,24 @@ module _ (low high : ℤ) (outputs : List ℕ) (xs : List ℤ) (kind : BlockKind
   pub taken-fits : misfit (length xs / 2 + 1) outputs ≡ false
   taken-fits = fits-then .0
 
-pub taken-quiet : (a b m : ℕ) (outputs : List ℕ) (xs : List ℤ) (kind : BlockKind) → a ≤ m → b ≤ m → tested (negℤ (pos a)) (pos b) outputs xs ≡ Taken kind
+taken-quiet : (a b m : ℕ) (outputs : List ℕ) (xs : List ℤ) (kind : BlockKind) → a ≤ m → b ≤ m → tested (negℤ (pos a)) (pos b) outputs xs ≡ Taken kind
     → (i : ℕ) → natAbs (cell xs i) ≤ m
 taken-quiet a b m outputs xs kind ha hb e = quiet a b m ha hb xs (ltb-false _ _ (quiet-then (negℤ (pos a)) (pos b) outputs xs kind e .0))
 
 pub samples-quiet : (xs : List ℤ) (kind : BlockKind) → testedSamples xs ≡ Taken kind → (i : ℕ) → natAbs (cell xs i) ≤ LOUDEST-SAMPLE
 samples-quiet xs kind e = taken-quiet 32768 32767 LOUDEST-SAMPLE [] xs kind (omega arith) (omega arith) e
 
-pub spectrum-quiet : (outputs : List ℕ) (xs : List ℤ) (kind : BlockKind) → testedSpectrum outputs xs ≡ Taken kind → (i : ℕ) → natAbs (cell xs i) ≤ LOUDEST-LINE
-spectrum-quiet outputs xs kind e = taken-quiet LOUDEST-LINE LOUDEST-LINE LOUDEST-LINE outputs xs kind (omega arith) (omega arith) e
+-- within any limits up to 2^28
+taken-accepted : (a b : ℕ) (outputs : List ℕ) (xs : List ℤ) (kind : BlockKind) → a ≤ LOUDEST-LINE → b ≤ LOUDEST-LINE → tested (negℤ (pos a)) (pos b) outputs xs ≡ Taken kind
+    → Accepted (kind .p) xs
+taken-accepted a b outputs xs kind ha hb e = let k = taken-kind (negℤ (pos a)) (pos b) outputs xs kind e in
+    record { least = k .least; most = k .most; long = k .cells; quiet = taken-quiet a b LOUDEST-LINE outputs xs kind ha hb e }
+
+pub samples-accepted : (xs : List ℤ) (kind : BlockKind) → testedSamples xs ≡ Taken kind → Accepted (kind .p) xs
+samples-accepted xs kind e = taken-accepted 32768 32767 [] xs kind (omega arith) (omega arith) e
+
+pub spectrum-accepted : (outputs : List ℕ) (xs : List ℤ) (kind : BlockKind) → testedSpectrum outputs xs ≡ Taken kind → Accepted (kind .p) xs
+spectrum-accepted outputs xs kind e = taken-accepted LOUDEST-LINE LOUDEST-LINE outputs xs kind (omega arith) (omega arith) e
 
 pub taken-line : (line : Line) (xs : List ℤ) (kind : BlockKind) → testedLine line xs ≡ Taken kind → (testedSpectrum [] xs ≡ Taken kind) × (line .0 ≤ length xs / 2)
 taken-line line xs kind e = let p = passed (ltb (length xs / 2) (line .0)) (LineAbove line) (testedSpectrum [] xs) kind e in (p .1, ltb-false _ _ (p .0))

@@ -8,13 +8,14 @@ use lib.ListN.{getD}
 abbrev pub cell : List ℤ → ℕ → ℤ
 cell xs i = getD xs i (pos 0)
 
--- a sample is -32,768 to 32,767; its largest magnitude
+-- a sample is -32,768 to 32,767
 abbrev pub LEAST-SAMPLE : ℤ
 LEAST-SAMPLE = negℤ (pos 32768)
 
 abbrev pub LARGEST-SAMPLE : ℤ
 LARGEST-SAMPLE = pos 32767
 
+-- and so at most this in magnitude
 abbrev pub LOUDEST-SAMPLE : ℕ
 LOUDEST-SAMPLE = 32768
 

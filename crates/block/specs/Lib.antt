@@ -1,3 +1,4 @@
 pub mod Cells
 pub mod Tests
 pub mod Answers
+pub mod Accepted

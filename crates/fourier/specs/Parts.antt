@@ -29,7 +29,7 @@ doubledLine which xs v = let N = length xs in formula which (H xs v) (H xs (N - 
 abbrev pub doubledLines : Doubled → List ℤ → List ℤ
 doubledLines which xs = let N = length xs in tabulate (N / 2 + 1) (doubledLine which xs)
 
--- what is left in a list that was lent for them: they, where the tests take what is lent, else the lent list
+-- what is left in a list that was lent for them: these lines where the tests pass, else the list as it was lent
 abbrev pub linesLeft : Doubled → List ℤ → List ℤ → KindAnswer → List ℤ
 linesLeft which xs lent answer = cellsLeft (λ _. doubledLines which xs) lent answer
 

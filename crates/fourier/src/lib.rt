@@ -4,15 +4,16 @@ use refusal::KindAnswer;
 use refusal::Line;
 use refusal::Refusal;
 ghost use mathlib.Core.Path.{_≡_};
-ghost use Prim.Native.Nat.{_+_, _/_, _^_, _≤_, _<_};
+ghost use Prim.Native.Nat.{ℕ, _+_, _/_, _^_, _≤_, _<_};
 ghost use lib.IntN.{natAbs};
 ghost use lib.ListN.{length};
 ghost use Rattle.block.specs.Cells.{LOUDEST-LINE};
 ghost use Rattle.block.specs.Tests.{testedLine};
+ghost use Rattle.block.specs.Accepted.{Accepted};
 ghost use Rattle.block.specs.Answers.{answerTo, firstFault, numbers};
 ghost use Rattle.fourier.specs.Parts.{formula, doubledLines, imaginaryLeft, powersLeft, realLeft, testedParts, testedPower};
 ghost use Rattle.fourier.specs.Scaled.{Exactly, quotient, scaledLine, scaledNumbers, scaledTo, Values};
-ghost use Rattle.fourier.specs.Workers.{Accepted, PowerOfTwo, scaledPair};
+ghost use Rattle.fourier.specs.Workers.{PowerOfTwo, scaledPair};
 
 // The three doubled values of a line.
 pub enum Doubled {
@@ -81,7 +82,7 @@ pub fn scaled(spectrum: &[i64], line: Line) -> ScaledLine
 
 // Fills the list with one of the three for lines 0 to N/2. The mirror of line 0 is line 0, that of line v is line N - v.
 fn fill(spectrum: &[i64], lines: &mut [i64], which: Doubled)
-    requires { ⌜ Accepted (now spectrum) × (length (now lines) ≡ length (now spectrum) / 2 + 1) ⌝ }
+    requires { ⌜ ((P : ℕ) × Accepted P (now spectrum)) × (length (now lines) ≡ length (now spectrum) / 2 + 1) ⌝ }
     ensures { λ _. ⌜ now (lines .exit) ≡ doubledLines which (now (spectrum .entry)) ⌝ }
 {
     let mut v = 0;
@@ -93,7 +94,7 @@ fn fill(spectrum: &[i64], lines: &mut [i64], which: Doubled)
     }
 }
 
-// One of the three for a line, from h, H(v), and m, H(N - v).
+// One of the three for line v; h is H(v) and m is H(N - v).
 fn formula(which: Doubled, h: i64, m: i64) -> i64
     requires { ⌜ (natAbs h ≤ LOUDEST-LINE) × (natAbs m ≤ LOUDEST-LINE) ⌝ }
     ensures { λ r. ⌜ r ≡ formula which h m ⌝ }
@@ -107,7 +108,7 @@ fn formula(which: Doubled, h: i64, m: i64) -> i64
 
 // A line that the spectrum has, scaled.
 fn scaled_line(spectrum: &[i64], line: Line) -> ScaledLine
-    requires { ⌜ Accepted (now spectrum) × (line .0 ≤ length (now spectrum) / 2) ⌝ }
+    requires { ⌜ ((P : ℕ) × Accepted P (now spectrum)) × (line .0 ≤ length (now spectrum) / 2) ⌝ }
     ensures { λ r. ⌜ r ≡ scaledLine (now (spectrum .entry)) (line .0) ⌝ }
 {
     let len = spectrum.len();

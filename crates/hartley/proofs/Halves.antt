@@ -4,13 +4,14 @@ use mathlib.Core.Path.{_≡_, refl, sym, _∙_, ap}
 use mathlib.Core.Bool.{Bool, true, false, not}
 use mathlib.Core.List.{List}
 use Prim.Native.Nat.{ℕ, zero, suc, _+_, _*_, _-_, _%_, _≤_, _<_}
-use native.Mathlib.Nat.{mul-le-mul-right, mod-lt}
+use native.Mathlib.Nat.{mul-le-mul-right}
 use native.Mathlib.Omega.{arith}
 use borrow.Author.Count.{below-more}
 use lib.Dec.{T, ltb, ltb→lt, nltb→le}
 use lib.IntN.{ℤ, pos, negℤ, natAbs, _+ℤ_, _*ℤ_}
 use lib.ListN.{length, getD, set, length-set}
 use lib.Seq.{getD-set-same, getD-set-other}
+use Rattle.ints.proofs.Mirror.{mirror-in}
 use Rattle.ints.proofs.Tables.{getD-tabulate, length-tabulate}
 use Rattle.ints.proofs.Filling.{Filled, filled-next, filled-still}
 use Rattle.refusal.specs.BlockKinds.{SCALE, SCALE-DIGITS}
@@ -39,7 +40,7 @@ pub places : {n stride : ℕ} {cosines sines : List ℤ} → Joins n stride cosi
     Places n stride v mirror entry
 places {n} {stride} J v mirror entry h m s =
     let on : entry + stride ≤ n * stride = omega (arith, mul-le-mul-right stride h) in
-    record { below = h; mirrored = rw m (mod-lt (n - v) (omega arith)); entry-in = omega (arith, stride-some n stride (J .apart) (J .turn)); entry-on = on }
+    record { below = h; mirrored = mirror-in n v mirror (omega arith) m; entry-in = omega (arith, stride-some n stride (J .apart) (J .turn)); entry-on = on }
 
 -- ---- what they are
 

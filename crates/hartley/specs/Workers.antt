@@ -6,19 +6,13 @@ use lib.IntN.{ℤ, natAbs}
 use lib.ListN.{length}
 use Rattle.ints.specs.Tabulate.{tabulate}
 use Rattle.refusal.specs.BlockKinds.{SCALE-DIGITS, TURN}
-use Rattle.block.specs.Cells.{cell, LOUDEST-LINE}
+use Rattle.block.specs.Cells.{cell}
 use Rattle.spectrum.specs.Spectrum.{tableCosine, tableSine, lineAt, levelsAt}
 use Rattle.spectrum.specs.Limits.{LARGEST-CELL}
 
 -- no cell is above b in magnitude
 pub record NoneAbove (b : ℕ) (xs : List ℤ) : Type 0 where
   pub size : (i : ℕ) → natAbs (cell xs i) ≤ b
-
--- 2^P cells, P at most 10, that leave room for all levels
-pub record Ready (P : ℕ) (xs : List ℤ) : Type 0 where
-  pub most : P ≤ 10
-  pub long : length xs ≡ 2 ^ P
-  pub quiet : NoneAbove LOUDEST-LINE xs
 
 -- a cosine, or a sine, over half a turn as a block of N cells needs it: N/2 values, 1,024 / N steps apart
 abbrev pub overHalfTurn : (ℕ → ℤ) → ℕ → List ℤ

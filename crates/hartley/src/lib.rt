@@ -12,13 +12,14 @@ ghost use Rattle.ints.specs.Sum.{sum};
 ghost use Rattle.refusal.specs.BlockKinds.{SCALE, SCALE-DIGITS};
 ghost use Rattle.block.specs.Cells.{cell};
 ghost use Rattle.block.specs.Tests.{testedSamples, testedSpectrum};
+ghost use Rattle.block.specs.Accepted.{Accepted};
 ghost use Rattle.block.specs.Answers.{answerTo, cellsLeft, firstFault, numbers};
 ghost use Rattle.block.specs.declared.Answer.the-variants.{Done};
 ghost use Rattle.spectrum.specs.Levels.{permuted, reversed};
 ghost use Rattle.spectrum.specs.Spectrum.{tableCosine, tableSine, levelAt, levelsAt, forward, backward};
 ghost use Rattle.spectrum.specs.Distance.{WithinE};
 ghost use Rattle.spectrum.specs.Limits.{LARGEST-CELL, LARGEST-SUM};
-ghost use Rattle.hartley.specs.Workers.{joinedHalves, Joins, NoneAbove, Pair, Ready, Runs, overHalfTurn};
+ghost use Rattle.hartley.specs.Workers.{joinedHalves, Joins, NoneAbove, Pair, Runs, overHalfTurn};
 
 // The forward spectrum of a block of samples, which it replaces.
 pub fn forward(cells: &mut [i64]) -> Answer
@@ -55,7 +56,7 @@ pub fn backward(cells: &mut [i64]) -> Answer
 
 // Permutes the 2^p cells and runs all levels on them, with the cosines and sines that they need.
 fn transform(cells: &mut [i64], p: usize)
-    requires { ⌜ Ready p (now cells) ⌝ }
+    requires { ⌜ Accepted p (now cells) ⌝ }
     ensures { λ _. ⌜ now (cells .exit) ≡ forward p (now (cells .entry)) ⌝ }
 {
     let len = cells.len();
@@ -67,7 +68,7 @@ fn transform(cells: &mut [i64], p: usize)
 
 // The same by lent cosines and sines. A second list keeps the cells that a step reads.
 fn transform_by(cells: &mut [i64], cosines: &[i64], sines: &[i64], p: usize)
-    requires { ⌜ Ready p (now cells) × (now cosines ≡ overHalfTurn (tableCosine SCALE-DIGITS) (2 ^ p)) × (now sines ≡ overHalfTurn (tableSine SCALE-DIGITS) (2 ^ p)) ⌝ }
+    requires { ⌜ Accepted p (now cells) × (now cosines ≡ overHalfTurn (tableCosine SCALE-DIGITS) (2 ^ p)) × (now sines ≡ overHalfTurn (tableSine SCALE-DIGITS) (2 ^ p)) ⌝ }
     ensures { λ _. ⌜ now (cells .exit) ≡ forward p (now (cells .entry)) ⌝ }
 {
     let len = cells.len();

@@ -1,6 +1,7 @@
 pub mod Laws
 pub mod Ring
 pub mod Order
+pub mod Comparisons
 pub mod Abs
 pub mod Powers
 pub mod Floor
@@ -10,3 +11,4 @@ pub mod Fit
 pub mod Tables
 pub mod Filling
 pub mod Parts
+pub mod Mirror

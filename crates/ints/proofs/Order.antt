@@ -207,14 +207,6 @@ pub ≼-total : (a b : ℤ) → (a ≼ b) ⊎ (b ≺ a)
     go true f g = inr (f tt)
     go false f g = inl (g tt)
 
--- the machine's test `a < b` where a is at least b
-pub at-most-test : (a b : ℤ) → b ≼ a → ltZ a b ≡ false
-at-most-test a b h = go (ltZ a b) (λ t. ltZ-yes t)
-  where
-    go : (t : Bool) → (T t → a ≺ b) → t ≡ false
-    go true f = clashℤ (f tt) h
-    go false f = refl
-
 -- a < b + 1 is a ≤ b
 pub ≼-of-≺-suc : {a b : ℤ} → a ≺ b +ℤ pos 1 → a ≼ b
 ≼-of-≺-suc {a} {b} h = let Γ = a ∷ b ∷ [] in le-goal Γ (search quotes) (omega (arith, lt-fact Γ h (search quotes)))

@@ -2,7 +2,7 @@
 use borrow.Author.Needs.{needs, sfits-of}
 use mathlib.Core.Path.{_≡_, refl, sym, _∙_}
 use mathlib.Core.Bool.{Bool, true, false, cond, _||_}
-use mathlib.Core.List.{List, [], _∷_}
+use mathlib.Core.List.{List}
 use mathlib.Core.Logic.{⊎-elim}
 use Prim.Native.Nat.{ℕ, suc, _+_, _-_, _≤_, _<_}
 use native.Mathlib.Numerals.{add-one}
@@ -10,47 +10,16 @@ use native.Mathlib.Omega.{arith}
 use lib.IntN.{ℤ, pos}
 use lib.ListN.{length, drop, drop-of-length-le}
 use lib.Seq.{drop-cons}
-use lib.Signed.{leZ, leZ-yes, ltZ, ltZ-yes, ltZ-no}
+use lib.Signed.{ltZ}
 use mir.Facts.{toZ-ofZ}
 use mir.Syntax.{w64}
 use mir.Val.{toZ, ofZ}
 use denote.Ref.{now}
-use Rattle.ints.proofs.Ring.{quotes}
-use Rattle.ints.proofs.Order.{_≼_, _≺_, le-fact, lt-fact, le-goal, at-most-test, negativePart, positivePart}
+use Rattle.ints.proofs.Comparisons.{Less, AtMost, comparisons, less-test, not-less-test}
 use Rattle.block.specs.Cells.{cell}
 use Rattle.block.specs.Tests.{firstLoud}
 use Rattle.block.proofs.first_loud.Statement.{statement}
 use Rattle.block.proofs.first_loud.Tie as tie
-
--- ---- the tests on integers as facts of `omega`, each integer being the difference of two naturals. `test-at-most` is for a wrong program,
--- one that tests by `<=`: its fault is then an order that fails.
-
-abbrev Less : ℤ → ℤ → Type 0
-Less a b = positivePart a + negativePart b < positivePart b + negativePart a
-
-abbrev AtMost : ℤ → ℤ → Type 0
-AtMost a b = positivePart a + negativePart b ≤ positivePart b + negativePart a
-
-test-less : (a b : ℤ) → ltZ a b ≡ true → Less a b
-test-less a b e = let Γ = a ∷ b ∷ [] in let h : a ≺ b = ltZ-yes (rw e tt) in omega (arith, lt-fact Γ h (search quotes))
-
-test-not-less : (a b : ℤ) → ltZ a b ≡ false → AtMost b a
-test-not-less a b e = let Γ = a ∷ b ∷ [] in let h : b ≼ a = ltZ-no (rw e tt) in omega (arith, le-fact Γ h (search quotes))
-
-test-at-most : (a b : ℤ) → leZ a b ≡ true → AtMost a b
-test-at-most a b e = let Γ = a ∷ b ∷ [] in let h : a ≼ b = leZ-yes (rw e tt) in omega (arith, le-fact Γ h (search quotes))
-
-ruleset tests = (arith, test-less, test-not-less, test-at-most)
-
-less-test : (a b : ℤ) → Less a b → ltZ a b ≡ true
-less-test a b h = go (ltZ a b) refl
-  where
-    go : (t : Bool) → ltZ a b ≡ t → t ≡ true
-    go true e = refl
-    go false e = absurd (omega tests)
-
-not-less-test : (a b : ℤ) → AtMost b a → ltZ a b ≡ false
-not-less-test a b h = at-most-test a b (le-goal (b ∷ a ∷ []) (search quotes) (omega arith))
 
 -- ---- the definition from cell i on
 
@@ -109,8 +78,8 @@ returns c = let a = c .before .before .before in
     let bx : toZ w64 (ofZ w64 x) ≡ x = toZ-ofZ (sfits-of (c .before .x .given)) in
     sym
     ((simp (bl, bh) at (a .loop .inv))
-    ∙ ⊎-elim (λ w. let t = simp (bx, bl) at (w .taken) in low-cell _ _ _ _ _ (omega arith) (omega tests) (omega arith))
-    (λ w. let t = simp (bx, bh) at (w .1 .taken) in high-cell _ _ _ _ _ (omega arith) (omega tests) (omega arith)) (c .if1 .came))
+    ∙ ⊎-elim (λ w. let t = simp (bx, bl) at (w .taken) in low-cell _ _ _ _ _ (omega arith) (omega comparisons) (omega arith))
+    (λ w. let t = simp (bx, bh) at (w .1 .taken) in high-cell _ _ _ _ _ (omega arith) (omega comparisons) (omega arith)) (c .if1 .came))
 
 add-i : tie.Need-add-i Inv-loop μ-loop
 add-i c = omega arith
@@ -123,7 +92,7 @@ loop-again c = let a = c .before .before .before .before in
     let x = cell (now (a .before .args .cells)) (a .loop .i) in
     let bx : toZ w64 (ofZ w64 x) ≡ x = toZ-ofZ (sfits-of (c .before .before .x .given)) in
     let t = simp bx at (c .before .if1 .left) in let u = simp bx at (c .if2 .left) in
-    a .loop .inv ∙ quiet-cell _ _ _ _ _ (omega arith) (omega tests) (omega tests) (omega arith)
+    a .loop .inv ∙ quiet-cell _ _ _ _ _ (omega arith) (omega comparisons) (omega comparisons) (omega arith)
 
 returns-2 : tie.Need-returns-2 Inv-loop μ-loop
 returns-2 c = let a = c .before in

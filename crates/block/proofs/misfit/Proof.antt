@@ -51,7 +51,7 @@ shared-slice-read-if1 : tie.Need-shared-slice-read-if1 Inv-loop μ-loop
 shared-slice-read-if1 c = search needs
 
 returns : tie.Need-returns Inv-loop μ-loop
-returns c = let a = c .before .before .before in sym (a .loop .inv ∙ other _ _ (a .loop .i) _ (omega arith) refl (c .if1 .taken))
+returns c = let a = c .before .before .before in sym (a .loop .inv ∙ other _ _ (a .loop .i) _ (omega arith) refl (λ e. omega arith))
 
 add-i : tie.Need-add-i Inv-loop μ-loop
 add-i c = omega arith
@@ -60,7 +60,7 @@ loop-less : tie.Need-loop-less Inv-loop μ-loop
 loop-less c = omega arith
 
 loop-again : tie.Need-loop-again Inv-loop μ-loop
-loop-again c = let a = c .before .before .before in a .loop .inv ∙ same _ _ (a .loop .i) _ (a .loop .i + 1) (omega arith) refl (c .if1 .left) (omega arith)
+loop-again c = let a = c .before .before .before in a .loop .inv ∙ same _ _ (a .loop .i) _ (a .loop .i + 1) (omega arith) refl (omega arith) (omega arith)
 
 returns-2 : tie.Need-returns-2 Inv-loop μ-loop
 returns-2 c = let a = c .before in sym (a .loop .inv ∙ end _ _ (a .loop .i) (omega arith))

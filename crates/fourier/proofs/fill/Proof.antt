@@ -10,19 +10,20 @@ use mir.Facts.{toZ-ofZ}
 use mir.Syntax.{w64}
 use mir.Val.{SFits, toZ, ofZ}
 use denote.Ref.{now}
+use Rattle.ints.proofs.Mirror.{mirror-first, mirror-later, mirror-in}
 use Rattle.ints.proofs.Filling.{Filled, filled-then, filled-all}
 use Rattle.block.specs.Cells.{cell}
 use Rattle.fourier.specs.declared.Doubled.{Doubled}
 use Rattle.fourier.specs.Parts.{formula, doubledLine}
-use Rattle.fourier.specs.Workers.{Accepted}
-use Rattle.fourier.proofs.Lines.{two-or-more, line-back, line-quiet, line-at, mirror-at, mirror-in, mirror-first, mirror-later}
+use Rattle.block.specs.Accepted.{Accepted}
+use Rattle.fourier.proofs.Lines.{two-or-more, line-back, line-quiet, line-at, mirror-at}
 use Rattle.fourier.proofs.fill.Statement.{statement}
 use Rattle.fourier.proofs.fill.Tie as tie
 
 -- r is what `doubled` makes of what is read of line v and of its mirror
-line-is : {xs : List ℤ} (which : Doubled) (v mirror : ℕ) {r : ℤ} → Accepted xs → v < length xs → mirror ≡ (length xs - v) % length xs → SFits w64 r
+line-is : {P : ℕ} {xs : List ℤ} (which : Doubled) (v mirror : ℕ) {r : ℤ} → Accepted P xs → v < length xs → mirror ≡ (length xs - v) % length xs → SFits w64 r
     → r ≡ formula which (toZ w64 (ofZ w64 (cell xs v))) (toZ w64 (ofZ w64 (cell xs mirror))) → toZ w64 (ofZ w64 r) ≡ doubledLine which xs v
-line-is {xs} which v mirror a h m f e = toZ-ofZ f ∙ e ∙ ap₂ (formula which) (line-back a v ∙ line-at xs v h) (line-back a mirror ∙ mirror-at xs v mirror m)
+line-is {xs = xs} which v mirror a h m f e = toZ-ofZ f ∙ e ∙ ap₂ (formula which) (line-back a v ∙ line-at xs v h) (line-back a mirror ∙ mirror-at xs v mirror m)
 
 abbrev Inv-loop : tie.InvT-loop
 Inv-loop spectrum lines₀ which v₀ mirror₀ lines v mirror =
@@ -32,7 +33,7 @@ abbrev μ-loop : tie.MeasureT-loop
 μ-loop spectrum lines₀ which v₀ mirror₀ lines v mirror = length spectrum - v
 
 loop-holds : tie.Need-loop-holds Inv-loop μ-loop
-loop-holds c = (omega arith, mirror-first _ _ _ (omega arith) (omega (arith, two-or-more (c .pre .0))), c .pre .1, λ k h. absurd (omega arith))
+loop-holds c = (omega arith, mirror-first _ _ _ (omega arith) (omega (arith, two-or-more (c .pre .0 .1))), c .pre .1, λ k h. absurd (omega arith))
 
 -- the round to which a point of the body belongs
 abbrev of-call : tie.After-formula Inv-loop μ-loop → tie.In-loop Inv-loop μ-loop
@@ -40,10 +41,10 @@ of-call c = c .before .before .before
 
 -- line v lies in the spectrum, and so does its mirror
 line-in : (c : tie.In-loop Inv-loop μ-loop) → c .before .loop .v < length (now (c .before .before .args .spectrum))
-line-in c = omega (arith, two-or-more (c .before .before .pre .0))
+line-in c = omega (arith, two-or-more (c .before .before .pre .0 .1))
 
 mirror-within : (c : tie.In-loop Inv-loop μ-loop) → c .before .loop .mirror < length (now (c .before .before .args .spectrum))
-mirror-within c = let l = c .before .loop in mirror-in _ (l .v) _ (two-or-more (c .before .before .pre .0)) (l .inv .1)
+mirror-within c = let l = c .before .loop in mirror-in _ (l .v) _ (omega (arith, two-or-more (c .before .before .pre .0 .1))) (l .inv .1)
 
 mul-formula : tie.Need-mul-formula Inv-loop μ-loop
 mul-formula c = let h = line-in c in search needs
@@ -58,7 +59,7 @@ shared-slice-copy-out-formula-2 : tie.Need-shared-slice-copy-out-formula-2 Inv-l
 shared-slice-copy-out-formula-2 c = mirror-within (c .before)
 
 formula-requires : tie.Need-formula-requires Inv-loop μ-loop
-formula-requires c κs = let i = c .before .before in let a = i .before .before .pre .0 in (line-quiet a (i .before .loop .v), line-quiet a (i .before .loop .mirror))
+formula-requires c κs = let i = c .before .before in let a = i .before .before .pre .0 .1 in (line-quiet a (i .before .loop .v), line-quiet a (i .before .loop .mirror))
 
 mul-t14 : tie.Need-mul-t14 Inv-loop μ-loop
 mul-t14 c = search needs
@@ -81,7 +82,7 @@ loop-again c = let i = of-call c in let s = i .before .before in let l = i .befo
   mirror-later _ _ _ (omega arith) (omega (arith, h)) (omega arith),
   simp length-set (l .inv .2),
   filled-then (pos 0) _ (l .lines) (l .v) _ _ _ (omega arith)
-      (line-is (s .args .which) (l .v) (l .mirror) (s .pre .0) h (l .inv .1) (sfits-of (c .formula .ok)) (c .formula .ensures)) (omega arith) (omega arith) (l .inv .3),
+      (line-is (s .args .which) (l .v) (l .mirror) (s .pre .0 .1) h (l .inv .1) (sfits-of (c .formula .ok)) (c .formula .ensures)) (omega arith) (omega arith) (l .inv .3),
 )
 
 same-length : tie.Need-same-length Inv-loop μ-loop

@@ -13,14 +13,13 @@ use Rattle.refusal.specs.declared.KindAnswer.{KindAnswer}
 use Rattle.refusal.specs.declared.KindAnswer.the-variants.{Taken, Refused as Untaken}
 use Rattle.refusal.specs.declared.Refusal.{Refusal}
 use Rattle.block.specs.Tests.{misfit, testedSpectrum}
+use Rattle.block.specs.Accepted.{Accepted}
 use Rattle.block.specs.Answers.{answerTo, firstFault, numbers}
 use Rattle.block.specs.declared.Answer.the-variants.{Refused}
-use Rattle.block.proofs.Taken.{output-fits, taken-fits}
+use Rattle.block.proofs.Taken.{output-fits, taken-fits, spectrum-accepted}
 use Rattle.fourier.specs.declared.Doubled.{Doubled}
 use Rattle.fourier.specs.declared.Doubled.the-variants.{Real, Imaginary}
 use Rattle.fourier.specs.Parts.{linesLeft, testedParts}
-use Rattle.fourier.specs.Workers.{Accepted}
-use Rattle.fourier.proofs.Lines.{taken-accepted}
 use Rattle.fourier.proofs.parts.Statement.{statement}
 use Rattle.fourier.proofs.parts.Tie as tie
 
@@ -43,9 +42,9 @@ module _ (xs real imaginary : List ℤ) (refusal : Refusal) {k : KindAnswer} {m 
 
 -- what follows for a spectrum xs and two lists that are taken
 module _ (xs real imaginary : List ℤ) (kind : BlockKind) (e : testedParts xs real imaginary ≡ Taken kind) where
-  accepted : Accepted xs
+  accepted : Accepted (kind .p) xs
   unfolding testedParts
-  accepted = taken-accepted (length real ∷ length imaginary ∷ []) xs kind e
+  accepted = spectrum-accepted (length real ∷ length imaginary ∷ []) xs kind e
 
   both-fit : (length real ≡ length xs / 2 + 1) × (misfit (length xs / 2 + 1) (length imaginary ∷ []) ≡ false)
   unfolding testedParts
@@ -76,11 +75,11 @@ taken c = let s = c .before .before .before .before in
 
 fill-requires : tie.Need-fill-requires
 fill-requires c κs = let s = c .before .before .before .before .before in let e = taken (c .before) in
-    (accepted _ (now (s .args .real)) (now (s .args .imaginary)) _ e, both-fit _ (now (s .args .real)) (now (s .args .imaginary)) _ e .0)
+    ((_, accepted _ (now (s .args .real)) (now (s .args .imaginary)) _ e), both-fit _ (now (s .args .real)) (now (s .args .imaginary)) _ e .0)
 
 fill-requires-2 : tie.Need-fill-requires-2
 fill-requires-2 c κs = let s = c .before .before .before .before .before .before .before .before in let e = taken (c .before .before .before .before) in
-    (accepted _ (now (s .args .real)) (now (s .args .imaginary)) _ e, imaginary-fits _ (now (s .args .real)) (now (s .args .imaginary)) _ e)
+    ((_, accepted _ (now (s .args .real)) (now (s .args .imaginary)) _ e), imaginary-fits _ (now (s .args .real)) (now (s .args .imaginary)) _ e)
 
 returns : tie.Need-returns
 returns c = let r = c .before .refusal .given .0 .0 in let e = c .before .before .before .tested-spectrum .ensures in let g = c .before .refusal .given .1 in (

@@ -11,12 +11,11 @@ use Rattle.refusal.specs.declared.BlockKind.{BlockKind}
 use Rattle.refusal.specs.declared.KindAnswer.{KindAnswer}
 use Rattle.refusal.specs.declared.KindAnswer.the-variants.{Taken, Refused as Untaken}
 use Rattle.block.specs.Tests.{testedSpectrum}
+use Rattle.block.specs.Accepted.{Accepted}
 use Rattle.block.specs.Answers.{answerTo, firstFault}
-use Rattle.block.proofs.Taken.{output-fits, taken-fits}
+use Rattle.block.proofs.Taken.{output-fits, taken-fits, spectrum-accepted}
 use Rattle.fourier.specs.declared.Doubled.the-variants.{Power}
 use Rattle.fourier.specs.Parts.{linesLeft, testedPower}
-use Rattle.fourier.specs.Workers.{Accepted}
-use Rattle.fourier.proofs.Lines.{taken-accepted}
 use Rattle.fourier.proofs.power.Statement.{statement}
 use Rattle.fourier.proofs.power.Tie as tie
 
@@ -25,9 +24,9 @@ found : {k t : KindAnswer} {n : ℕ} (xs powers : List ℤ) → k ≡ testedSpec
 unfolding testedPower
 found xs powers e g p = sym (ap (λ (n : ℕ). testedSpectrum (n ∷ []) xs) p) ∙ sym e ∙ g
 
-accepted : (xs powers : List ℤ) (kind : BlockKind) → testedPower xs powers ≡ Taken kind → Accepted xs
+accepted : (xs powers : List ℤ) (kind : BlockKind) → testedPower xs powers ≡ Taken kind → Accepted (kind .p) xs
 unfolding testedPower
-accepted xs powers kind e = taken-accepted (length powers ∷ []) xs kind e
+accepted xs powers kind e = spectrum-accepted (length powers ∷ []) xs kind e
 
 power-fits : (xs powers : List ℤ) (kind : BlockKind) → testedPower xs powers ≡ Taken kind → length powers ≡ length xs / 2 + 1
 unfolding testedPower
@@ -57,7 +56,7 @@ taken c = let s = c .before .before .before .before in found (now (s .args .spec
 
 fill-requires : tie.Need-fill-requires
 fill-requires c κs = let s = c .before .before .before .before .before in let e = taken (c .before) in
-    (accepted _ (now (s .args .powers)) _ e, power-fits _ (now (s .args .powers)) _ e)
+    ((_, accepted _ (now (s .args .powers)) _ e), power-fits _ (now (s .args .powers)) _ e)
 
 returns : tie.Need-returns
 returns c = let s = c .before .before .before .before .before in let e = refused (c .before) in

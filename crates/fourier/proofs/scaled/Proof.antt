@@ -8,20 +8,19 @@ use Rattle.refusal.specs.declared.BlockKind.{BlockKind}
 use Rattle.refusal.specs.declared.KindAnswer.the-variants.{Taken, Refused as Untaken}
 use Rattle.refusal.specs.declared.Line.{Line}
 use Rattle.block.specs.Tests.{testedLine}
+use Rattle.block.specs.Accepted.{Accepted}
 use Rattle.block.specs.Answers.{firstFault}
-use Rattle.block.proofs.Taken.{taken-line}
+use Rattle.block.proofs.Taken.{spectrum-accepted, taken-line}
 use Rattle.fourier.specs.declared.ScaledLine.{ScaledLine}
 use Rattle.fourier.specs.Scaled.{scaledNumbers, scaledLine, scaledTo, Values}
-use Rattle.fourier.specs.Workers.{Accepted}
-use Rattle.fourier.proofs.Lines.{taken-accepted}
 use Rattle.fourier.proofs.Values.{values, no-numbers}
 use Rattle.fourier.proofs.scaled.Statement.{statement}
 use Rattle.fourier.proofs.scaled.Tie as tie
 
 -- a line that is taken, and the answer r to it
 module _ (xs : List ℤ) (line : Line) (kind : BlockKind) (e : testedLine line xs ≡ Taken kind) where
-  accepted : Accepted xs
-  accepted = taken-accepted [] xs kind (taken-line line xs kind e .0)
+  accepted : Accepted (kind .p) xs
+  accepted = spectrum-accepted [] xs kind (taken-line line xs kind e .0)
 
   module _ {r : ScaledLine} (f : r ≡ scaledLine xs (line .0)) where
     answer : r ≡ scaledTo xs line (testedLine line xs)
@@ -51,7 +50,7 @@ taken c = sym (c .before .before .tested-line .ensures) ∙ c .enum-told .given 
 
 scaled-line-requires : tie.Need-scaled-line-requires
 scaled-line-requires c κs = let s = c .before .before .before in let xs = now (s .args .spectrum) in
-    (accepted xs (s .args .line) _ (taken c), taken-line (s .args .line) xs _ (taken c) .1)
+    ((_, accepted xs (s .args .line) _ (taken c)), taken-line (s .args .line) xs _ (taken c) .1)
 
 returns : tie.Need-returns
 returns c = let s = c .before .before .before .before in let e = refused (c .before) in

@@ -11,17 +11,19 @@ use lib.ListN.{length}
 use mir.Syntax.{w64}
 use mir.Val.{toZ, ofZ}
 use denote.Ref.{now}
+use Rattle.ints.proofs.Mirror.{mirror-later}
+use Rattle.block.specs.Accepted.{Accepted}
 use Rattle.block.specs.Cells.{cell}
 use Rattle.fourier.specs.declared.Pair.{Pair as RealAndImaginary}
 use Rattle.fourier.specs.declared.ScaledLine.the-variants.{Mean, Last, Pair}
 use Rattle.fourier.specs.Parts.{H}
 use Rattle.fourier.specs.Scaled.{quotient, scaledLine}
-use Rattle.fourier.specs.Workers.{Accepted, scaledPair}
-use Rattle.fourier.proofs.Lines.{power-of-two, two-or-more, line-back, line-quiet, line-at, mirror-at, mirror-later}
+use Rattle.fourier.specs.Workers.{scaledPair}
+use Rattle.fourier.proofs.Lines.{power-of-two, two-or-more, line-back, line-quiet, line-at, mirror-at}
 use Rattle.fourier.proofs.scaled_line.Statement.{statement}
 use Rattle.fourier.proofs.scaled_line.Tie as tie
 
-module _ {xs : List ℤ} (a : Accepted xs) where
+module _ {P : ℕ} {xs : List ℤ} (a : Accepted P xs) where
   small : (i : ℕ) → natAbs (toZ w64 (ofZ w64 (cell xs i))) < 2 ^ 53
   small i = omega (arith, line-quiet a i)
 
@@ -42,13 +44,13 @@ module _ {xs : List ℤ} (a : Accepted xs) where
       (ap Pair (e ∙ rw (en, line-back a i, line-back a j, ei) (ap₂ (scaledPair (length xs)) (line-at xs v (omega arith)) (mirror-at xs v j (mirror-later (length xs) v j p h ej)))))
 
 shared-slice-copy-out-quotient : tie.Need-shared-slice-copy-out-quotient
-shared-slice-copy-out-quotient c = omega (arith, two-or-more (c .before .pre .0))
+shared-slice-copy-out-quotient c = omega (arith, two-or-more (c .before .pre .0 .1))
 
 quotient-requires : tie.Need-quotient-requires
-quotient-requires c κs = let a = c .before .before .pre .0 in (small a 0, power-of-two a 53 (omega arith))
+quotient-requires c κs = let a = c .before .before .pre .0 .1 in (small a 0, power-of-two a 53 (omega arith))
 
 returns : tie.Need-returns
-returns c = let s = c .before .before .before in let a = s .pre .0 in
+returns c = let s = c .before .before .before in let a = s .pre .0 .1 in
     mean a (s .args .line .0) (omega arith) (line-over a 0 0 (c .quotient .ensures .0) (omega arith) (omega (arith, two-or-more a)) (omega arith))
 
 mul-quotient : tie.Need-mul-quotient
@@ -58,10 +60,10 @@ shared-slice-copy-out-quotient-2 : tie.Need-shared-slice-copy-out-quotient-2
 shared-slice-copy-out-quotient-2 c = search needs
 
 quotient-requires-2 : tie.Need-quotient-requires-2
-quotient-requires-2 c κs = let s = c .before .before .before in let a = s .pre .0 in (small a (s .args .line .0), power-of-two a 53 (omega arith))
+quotient-requires-2 c κs = let s = c .before .before .before in let a = s .pre .0 .1 in (small a (s .args .line .0), power-of-two a 53 (omega arith))
 
 returns-2 : tie.Need-returns-2
-returns-2 c = let s = c .before .before .before .before in let a = s .pre .0 in let v = s .args .line .0 in
+returns-2 c = let s = c .before .before .before .before in let a = s .pre .0 .1 in let v = s .args .line .0 in
     last a v (λ e. omega arith) (omega arith) (line-over a v (length (now (s .args .spectrum)) / 2) (c .quotient2 .ensures .0) (omega arith) (omega (arith, two-or-more a)) (omega arith))
 
 mul-scaled-pair : tie.Need-mul-scaled-pair
@@ -80,11 +82,11 @@ shared-slice-copy-out-scaled-pair-2 : tie.Need-shared-slice-copy-out-scaled-pair
 shared-slice-copy-out-scaled-pair-2 c = search needs
 
 scaled-pair-requires : tie.Need-scaled-pair-requires
-scaled-pair-requires c κs = let s = c .before .before .before .before in let a = s .pre .0 in let v = s .args .line .0 in
+scaled-pair-requires c κs = let s = c .before .before .before .before in let a = s .pre .0 .1 in let v = s .args .line .0 in
     (line-quiet a v, line-quiet a (length (now (s .args .spectrum)) - v), power-of-two a 10 (omega arith))
 
 returns-3 : tie.Need-returns-3
-returns-3 c = let s = c .before .before .before .before .before in let a = s .pre .0 in let v = s .args .line .0 in
+returns-3 c = let s = c .before .before .before .before .before in let a = s .pre .0 .1 in let v = s .args .line .0 in
     pair a v v (length (now (s .args .spectrum)) - v) (λ e. omega arith) (λ e. omega arith) (omega arith) (c .scaled-pair .ensures)
     (omega arith) (omega arith) (omega (arith, two-or-more a)) (omega arith) (omega arith)
 

@@ -11,7 +11,7 @@ use Rattle.refusal.specs.declared.KindAnswer.the-variants.{Taken}
 use Rattle.spectrum.specs.Spectrum.{backward}
 use Rattle.block.specs.Tests.{testedSpectrum}
 use Rattle.block.specs.Answers.{answerTo, cellsLeft, firstFault}
-use Rattle.hartley.proofs.Ready.{spectrum-ready}
+use Rattle.block.proofs.Taken.{spectrum-accepted}
 use Rattle.hartley.proofs.backward.Statement.{statement}
 use Rattle.hartley.proofs.backward.Tie as tie
 
@@ -36,7 +36,7 @@ enum-known-kind : tie.Need-enum-known-kind
 enum-known-kind c = search needs
 
 transform-requires : tie.Need-transform-requires
-transform-requires c κs = spectrum-ready [] _ _ (taken (c .before .before))
+transform-requires c κs = spectrum-accepted [] _ _ (taken (c .before .before))
 
 divide-requires : tie.Need-divide-requires
 divide-requires c κs = search needs

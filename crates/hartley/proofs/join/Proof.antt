@@ -3,7 +3,7 @@ use borrow.Author.Needs.{needs, sfits-of}
 use mathlib.Core.Path.{_≡_, refl, sym, _∙_, ap, ap₂}
 use mathlib.Core.List.{List, [], _∷_}
 use Prim.Native.Nat.{ℕ, _+_, _*_, _-_, _%_, _≤_, _<_, _^_}
-use native.Mathlib.Nat.{mod-self, mod-eq-of-lt, sub-zero, zero-mul, not-suc-le-zero}
+use native.Mathlib.Nat.{zero-mul, not-suc-le-zero}
 use native.Mathlib.Omega.{arith}
 use lib.IntN.{ℤ, pos, negℤ, natAbs, _+ℤ_, _-ℤ_, _*ℤ_}
 use lib.ListN.{length, length-set}
@@ -14,6 +14,7 @@ use denote.Ref.{now}
 use Rattle.ints.proofs.Ring.{ring, quotes}
 use Rattle.ints.proofs.Abs.{abs-minus}
 use Rattle.ints.proofs.Fit.{fits, reads-back}
+use Rattle.ints.proofs.Mirror.{mirror-first, mirror-later}
 use Rattle.ints.proofs.Filling.{Filled, filled-all}
 use Rattle.refusal.specs.BlockKinds.{SCALE, SCALE-DIGITS}
 use Rattle.block.specs.Cells.{cell}
@@ -93,10 +94,6 @@ second-read c = let i = (of-second c) in let s = i .before .before .args in let 
     (reads-back (pos 0 -ℤ y) LARGEST-SUM (omega arith) (minus y (read-small (z .result) LARGEST-SUM (omega arith) (z .ensures .1))) ∙ minus-is y ∙ ap negℤ (sum-read (c .before .before .before .before)))
     ∙ sym (line-in-second-half (q .0) (cell (now (s .a))) (cell (now (s .b))) (l .v) (l .mirror) (l .entry) (here i) (l .inv .1) (l .inv .2))
 
--- line 0 is its own mirror
-own-mirror : (n mirror : ℕ) → mirror ≡ 0 → mirror ≡ (n - 0) % n
-own-mirror n mirror e = e ∙ sym (ap (λ (x : ℕ). x % n) (sub-zero n) ∙ mod-self n)
-
 -- the entry after that of line v
 next-entry : (v stride entry next : ℕ) → entry ≡ v * stride → next ≡ entry + stride → next ≡ (v + 1) * stride
 next-entry v stride entry next e f = f ∙ ap (λ (x : ℕ). x + stride) e ∙ one-more
@@ -106,7 +103,7 @@ next-entry v stride entry next e f = f ∙ ap (λ (x : ℕ). x + stride) e ∙ o
 
 loop-holds : tie.Need-loop-holds Inv-loop μ-loop
 loop-holds c = let n = length (now (c .args .a)) in
-    (omega arith, own-mirror n _ (omega arith), sym (zero-mul (c .args .stride)), c .pre .1 .all-lines, λ i h. absurd (not-suc-le-zero h), λ i h. absurd (not-suc-le-zero h))
+    (omega arith, mirror-first n 0 _ (omega arith) (omega arith), sym (zero-mul (c .args .stride)), c .pre .1 .all-lines, λ i h. absurd (not-suc-le-zero h), λ i h. absurd (not-suc-le-zero h))
 
 mul-sum-of-products : tie.Need-mul-sum-of-products Inv-loop μ-loop
 mul-sum-of-products c = let p = here c in search needs
@@ -197,7 +194,7 @@ loop-less c = let p = here (of-second c) in search needs
 loop-again : tie.Need-loop-again Inv-loop μ-loop
 loop-again c = let i = (of-second c) in let s = i .before .before .args in let l = i .before .loop in let p = here i in let f = lineAt SCALE-DIGITS (length (now (s .a))) (cell (now (s .a))) (cell (now (s .b))) in (
   omega arith,
-  sym (mod-eq-of-lt (omega arith)),
+  mirror-later _ _ _ (omega arith) (omega arith) (omega arith),
   next-entry (l .v) (s .stride) (l .entry) _ (l .inv .2) (omega arith),
   simp length-set (l .inv .3),
   written-first f (length (now (s .a))) (l .v) (l .cells) _ _ (p .below) (l .inv .3) (first-read (c .before .before)) (l .inv .4),

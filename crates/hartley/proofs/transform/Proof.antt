@@ -12,7 +12,8 @@ use Rattle.ints.proofs.Tables.{length-tabulate}
 use Rattle.ints.proofs.Parts.{front-is, front-fits}
 use Rattle.refusal.specs.BlockKinds.{SCALE-DIGITS}
 use Rattle.spectrum.specs.Spectrum.{tableCosine, tableSine}
-use Rattle.hartley.specs.Workers.{Ready, overHalfTurn}
+use Rattle.block.specs.Accepted.{Accepted}
+use Rattle.hartley.specs.Workers.{overHalfTurn}
 use Rattle.hartley.proofs.transform.Statement.{statement}
 use Rattle.hartley.proofs.transform.Tie as tie
 

@@ -13,7 +13,7 @@ use Rattle.spectrum.specs.Spectrum.{levelsAt, forwardAt, forward}
 use Rattle.spectrum.proofs.Stages.{length-permuted}
 use Rattle.spectrum.proofs.Demand3.{forward-room}
 use Rattle.refusal.specs.BlockKinds.{SCALE-DIGITS}
-use Rattle.hartley.specs.Workers.{Ready}
+use Rattle.block.specs.Accepted.{Accepted}
 use Rattle.hartley.proofs.transform_by.Statement.{statement}
 use Rattle.hartley.proofs.transform_by.Tie as tie
 
@@ -65,7 +65,7 @@ run-levels-requires c κs = let m = permuted-at c in let k = kept-at m in let s 
       as-long = ap length kept ∙ s .pre .0 .long;
       at-cosines = s .pre .1;
       at-sines = s .pre .2;
-      quiet = λ L h. record { size = λ i. rw cells (forward-room L p h (s .pre .0 .most) xs (s .pre .0 .quiet .size) i) };
+      quiet = λ L h. record { size = λ i. rw cells (forward-room L p h (s .pre .0 .most) xs (s .pre .0 .quiet) i) };
     }
 
 same-length : tie.Need-same-length
