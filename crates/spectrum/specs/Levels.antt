@@ -1,4 +1,4 @@
--- Document 01, Levels.
+-- Document 01, Levels: the permutation, the rule of a level and the levels in turn, over any rounding and any table.
 -- Example: with the cosines and the rounding in force, levels 1 and 2 make {1, 3, 2, 4} into {10, −4, −2, 0} (the starred rows).
 use mathlib.Core.List.{List}
 use Prim.Native.Nat.{ℕ, zero, suc, _+_, _*_, _-_, _/_, _%_, _^_}
