@@ -1,4 +1,4 @@
--- What the tests tell: a block that is taken has the length of its kind, no cell outside the limits and outputs that fit; and a spectrum of
+-- What the tests tell: a block that is taken has the length of its kind, no cell outside the limits and outputs that fit; and a block of
 -- which all that holds is taken.
 -- Example: `samples-quiet xs kind e i : natAbs (cell xs i) ≤ LOUDEST-SAMPLE`, with e : testedSamples xs ≡ Taken kind.
 use mathlib.Core.Path.{_≡_, refl, ap}
@@ -14,7 +14,7 @@ use lib.Signed.{ltZ, ltZ-no}
 use Rattle.ints.proofs.Ring.{quotes}
 use Rattle.ints.proofs.Order.{_≼_, le-fact}
 use Rattle.ints.proofs.Comparisons.{at-most-test}
-use Rattle.ints.proofs.Abs.{abs-fact, abs-lower, abs-upper}
+use Rattle.ints.proofs.Abs.{abs-fact}
 use Rattle.refusal.specs.declared.BlockKind.{BlockKind}
 use Rattle.refusal.specs.declared.KindAnswer.{KindAnswer}
 use Rattle.refusal.specs.declared.KindAnswer.the-variants.{Taken, Refused}
@@ -107,15 +107,12 @@ taken-line line xs kind e = let p = passed (ltb (length xs / 2) (line .0)) (Line
 
 -- ---- and a block that must be taken
 
-within : (m : ℕ) (x : ℤ) → natAbs x ≤ m → (ltZ x (negℤ (pos m)) ≡ false) × (ltZ (pos m) x ≡ false)
-within m x h = (at-most-test x (negℤ (pos m)) (abs-lower h), at-most-test (pos m) x (abs-upper h))
-
-all-quiet : (m : ℕ) (xs : List ℤ) → ((i : ℕ) → natAbs (cell xs i) ≤ m) → firstLoud (negℤ (pos m)) (pos m) xs ≡ length xs
+all-quiet : (low high : ℤ) (xs : List ℤ) → ((i : ℕ) → low ≼ cell xs i) → ((i : ℕ) → cell xs i ≼ high) → firstLoud low high xs ≡ length xs
 unfolding firstLoud
-all-quiet m [] h = refl
-all-quiet m (x ∷ xs) h = let w = within m x (h 0) in rw (w .0, w .1) (ap suc (all-quiet m xs (λ i. h (suc i))))
+all-quiet low high [] h k = refl
+all-quiet low high (x ∷ xs) h k = rw (at-most-test x low (h 0), at-most-test high x (k 0)) (ap suc (all-quiet low high xs (λ i. h (suc i)) (λ i. k (suc i))))
 
-pub must-take : (m P : ℕ) (outputs : List ℕ) (xs : List ℤ) → Kind-length (length xs) P → misfit (length xs / 2 + 1) outputs ≡ false → ((i : ℕ) → natAbs (cell xs i) ≤ m)
-    → tested (negℤ (pos m)) (pos m) outputs xs ≡ Taken (record { p = P })
+pub must-take : (low high : ℤ) (P : ℕ) (outputs : List ℕ) (xs : List ℤ) → Kind-length (length xs) P → misfit (length xs / 2 + 1) outputs ≡ false
+    → ((i : ℕ) → low ≼ cell xs i) → ((i : ℕ) → cell xs i ≼ high) → tested low high outputs xs ≡ Taken (record { p = P })
 unfolding tested
-must-take m P outputs xs k f h = rw (all-quiet m xs h, le-ltb (length xs) (length xs) (omega arith), f, kind-given (length xs) P k) refl
+must-take low high P outputs xs n f h k = rw (all-quiet low high xs h k, le-ltb (length xs) (length xs) (omega arith), f, kind-given (length xs) P n) refl

@@ -8,10 +8,11 @@ use Prim.Native.Nat.{ℕ, _+_, _*_, _/_, _^_, _≤_, _<_}
 use native.Mathlib.Nat.{le-trans, le-of-mul-le-mul-left}
 use native.Mathlib.Omega.{arith}
 use lib.Dec.{T, leb, leb→le, ltb, ltb→lt, nltb→le}
-use lib.IntN.{ℤ, pos, natAbs}
+use lib.IntN.{ℤ, pos, negℤ, natAbs}
 use lib.ListN.{length, List·getD-eq-default}
 use Rattle.ints.specs.Quotient.{rounded}
 use Rattle.ints.specs.Tabulate.{tabulate}
+use Rattle.ints.proofs.Abs.{abs-lower, abs-upper}
 use Rattle.ints.proofs.Tables.{alongside, alongside-at}
 use Rattle.refusal.specs.declared.BlockKind.{BlockKind}
 use Rattle.refusal.specs.declared.KindAnswer.the-variants.{Taken}
@@ -50,5 +51,6 @@ forward-quiet P few xs quiet i = go (ltb i (2 ^ P)) (ltb→lt i (2 ^ P)) (nltb�
 pub forward-taken : (outputs : List ℕ) (xs : List ℤ) (kind : BlockKind) → testedSamples xs ≡ Taken kind → misfit (length xs / 2 + 1) outputs ≡ false
     → testedSpectrum outputs (forward (kind .p) xs) ≡ Taken kind
 forward-taken outputs xs kind e f = let k = taken-kind _ _ [] xs kind e in let long : length (forward (kind .p) xs) ≡ length xs = length-forward (kind .p) xs ∙ sym (k .cells) in
-    must-take LOUDEST-LINE (kind .p) outputs (forward (kind .p) xs) (rw long k) (rw long f)
-    (forward-quiet (kind .p) (k .most) xs (samples-quiet xs kind e))
+    let quiet = forward-quiet (kind .p) (k .most) xs (samples-quiet xs kind e) in
+    must-take (negℤ (pos LOUDEST-LINE)) (pos LOUDEST-LINE) (kind .p) outputs (forward (kind .p) xs) (rw long k) (rw long f)
+    (λ i. abs-lower (quiet i)) (λ i. abs-upper (quiet i))
