@@ -97,6 +97,7 @@ fn each_block(name: &[u8], trace: &[u8]) {
 fn notes(bytes: &mut [u8])
     requires { ⌜ 65537 ≡ length (now bytes) ⌝ }
 {
+    checked(b"65537 bytes of FF", bytes);
     notes_of(b"note of 0 bytes", bytes, 0, 0);
     notes_of(b"note of 255 bytes", bytes, 0, 255);
     notes_of(b"note of 256 bytes", bytes, 0, 256);
