@@ -12,3 +12,4 @@ pub mod Tables
 pub mod Filling
 pub mod Parts
 pub mod Mirror
+pub mod Writing
