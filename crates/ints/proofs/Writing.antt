@@ -25,6 +25,11 @@ module _ {A : Type 0} where
   unfolding written
   length-written xs at ys h = simp (length-append, length-take, length-drop) (omega arith)
 
+  -- it reaches as far as what is written
+  pub written-reaches : (xs : List A) (at : ℕ) (ys : List A) → at ≤ length xs → at + length ys ≤ length (written xs at ys)
+  unfolding written
+  written-reaches xs at ys h = simp (length-append, length-take, length-drop) (omega arith)
+
   -- first ys, and zs from its end on
   pub written-more : (xs : List A) (at : ℕ) (ys zs : List A) → at + length ys ≤ length xs → written (written xs at ys) (at + length ys) zs ≡ written xs at (ys ++ zs)
   unfolding written
