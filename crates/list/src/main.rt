@@ -3,8 +3,9 @@ use libc::STDERR_FILENO;
 use libc::STDIN_FILENO;
 use libc::STDOUT_FILENO;
 ghost use mathlib.Core.Path.{_≡_};
-ghost use Prim.Native.Nat.{_≤_};
+ghost use Prim.Native.Nat.{_+_, _*_};
 ghost use lib.ListN.{length};
+ghost use Rattle.trace.specs.Contents.{LONGEST};
 ghost use Rattle.list.specs.Input.{Fits};
 
 // What was read from standard input: so many bytes, or a read failed.
@@ -13,16 +14,16 @@ enum Input {
     Failed,
 }
 
-// Reads, lists and writes. It keeps its samples in one block of 1,024 cells, zero at the start.
+// Reads, lists and writes. It keeps its samples in one block of 1,024 zero cells at the start.
 fn main() {
-    let mut trace = room();
-    let mut out = page();
+    let mut trace = input_buffer();
+    let mut out = output_buffer();
     match read_trace(&mut trace) {
         Input::Failed => {
             io::write_all(STDERR_FILENO, b"list: the trace cannot be read\n");
         }
         Input::Read(len) => {
-            let used = listing::list(&trace[..len], [0; 1024], &mut out);
+            let used = listing::list(&trace[..len], [0i64; 1024], &mut out);
             if !io::write_all(STDOUT_FILENO, &out[..used]) {
                 io::write_all(STDERR_FILENO, b"list: the listing cannot be written\n");
             }
@@ -31,17 +32,17 @@ fn main() {
 }
 
 // Room for a trace that is one byte too long, which is enough to see that it is.
-fn room() -> [u8; 65537]
-    ensures { λ r. ⌜ 65537 ≡ length r ⌝ }
+fn input_buffer() -> [u8; trace::LONGEST + 1]
+    ensures { λ r. ⌜ LONGEST + 1 ≡ length r ⌝ }
 {
-    [0; 65537]
+    [0; trace::LONGEST + 1]
 }
 
-// Room for the longest listing.
-fn page() -> [u8; 2097152]
-    ensures { λ r. ⌜ 2097152 ≡ length r ⌝ }
+// Room for every listing.
+fn output_buffer() -> [u8; listing::ROOM]
+    ensures { λ r. ⌜ 32 * LONGEST ≡ length r ⌝ }
 {
-    [0; 2097152]
+    [0; listing::ROOM]
 }
 
 // Reads standard input until the bytes are full or the input ends.

@@ -12,11 +12,11 @@ use Rattle.list.proofs.main.Tie as tie
 read-inside : (l : tie.After-len) → l .len .given .0 .0 ≤ length (l .before .before .before .read-trace .last .0)
 read-inside l = subst (λ i. Fits i (l .before .before .before .read-trace .last .0)) (l .len .given .1) (l .before .before .before .read-trace .ensures)
 
-room-requires : tie.Need-room-requires
-room-requires c κs = search needs
+input-buffer-requires : tie.Need-input-buffer-requires
+input-buffer-requires c κs = search needs
 
-page-requires : tie.Need-page-requires
-page-requires c κs = search needs
+output-buffer-requires : tie.Need-output-buffer-requires
+output-buffer-requires c κs = search needs
 
 slice-aggregate-read-trace : tie.Need-slice-aggregate-read-trace
 slice-aggregate-read-trace c = search needs
@@ -73,8 +73,8 @@ pub main-spec : {M : Type 1} → statement M
 main-spec =
     tie.close
     (tie.spec
-    room-requires
-    page-requires
+    input-buffer-requires
+    output-buffer-requires
     slice-aggregate-read-trace
     read-trace-requires
     enum-told
