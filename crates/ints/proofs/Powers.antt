@@ -1,8 +1,9 @@
 -- Powers of two. Example: `two-pow k : 2 ^ suc k ≡ 2 * 2 ^ k`.
 use mathlib.Core.Path.{_≡_, _∙_, ap}
-use Prim.Native.Nat.{ℕ, suc, _-_, _*_, _^_, _<_}
+use Prim.Native.Nat.{ℕ, suc, _-_, _*_, _%_, _^_, _≤_, _<_}
 use native.Mathlib.Nat.{pow-suc, mul-comm}
 use native.Mathlib.Omega.{arith}
+use lib.Pow.{pow-mono}
 
 pub two-pow : (k : ℕ) → 2 ^ suc k ≡ 2 * 2 ^ k
 two-pow k = pow-suc 2 k ∙ mul-comm (2 ^ k) 2
@@ -13,3 +14,7 @@ two-pow-pred k h = ap (λ (n : ℕ). 2 ^ n) up ∙ two-pow (k - 1)
   where
     up : k ≡ suc (k - 1)
     up = omega arith
+
+-- 1 shifted by p, as the machine does it: the number of cells of a block
+pub shifted : (p n : ℕ) → p ≤ 10 → n ≡ 1 * 2 ^ p % 2 ^ 64 → (n ≡ 2 ^ p) × (n ≤ 1024)
+shifted p n few e = let small : 2 ^ p ≤ 2 ^ 10 = pow-mono few in (omega arith, omega arith)

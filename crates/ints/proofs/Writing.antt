@@ -1,6 +1,6 @@
 -- Lists written into a list one after another.
 -- Example: `written-more xs at ys zs h : written (written xs at ys) (at + length ys) zs ≡ written xs at (ys ++ zs)`, with h : at + length ys ≤ length xs.
-use mathlib.Core.Path.{_≡_, refl, sym, _∙_, ap, ap₂}
+use mathlib.Core.Path.{_≡_, sym, _∙_, ap, ap₂}
 use mathlib.Core.List.{List, [], _∷_, _++_, append-assoc}
 use Prim.Native.Nat.{ℕ, _+_, _≤_, _<_}
 use native.Mathlib.Nat.{add-zero}
