@@ -1,6 +1,9 @@
 // The trace samples of document 01, run. What is printed is held to the file stdout, which was worked by hand from the document.
 // Bytes are in hex as there, \0 being 00.
 use libc::STDOUT_FILENO;
+use refusal::Refusal;
+use trace::Head;
+use trace::RecordAnswer;
 use trace::TraceAnswer;
 ghost use mathlib.Core.Path.{_≡_};
 ghost use Prim.Native.Nat.{_+_, _*_, _≤_};
@@ -27,6 +30,8 @@ fn main() {
     cuts();
     heads();
     samples();
+    records();
+    refused_records();
 }
 
 // Room for a trace that is one byte too long. FF is what stands in the notes' payloads.
@@ -98,6 +103,7 @@ fn notes(bytes: &mut [u8])
     requires { ⌜ 65537 ≡ length (now bytes) ⌝ }
 {
     checked(b"65537 bytes of FF", bytes);
+    record(bytes, 0, 0, 12, 3);
     notes_of(b"note of 0 bytes", bytes, 0, 0);
     notes_of(b"note of 255 bytes", bytes, 0, 255);
     notes_of(b"note of 256 bytes", bytes, 0, 256);
@@ -222,6 +228,33 @@ fn samples() {
     );
 }
 
+// The records of two blocks with P = 1 and a note between them, each by itself; then places at which none begins.
+fn records() {
+    let trace =
+        b"\x06\0\0\0\x01\0\x40\x1F\0\0\x01\0\x04\0\0\0\x02\0\x05\0\x06\0\x06\0\0\0\x03\0\0\0\0\0\x04\0\x04\0\0\0\x02\0\x03\0\xFB\xFF\0\0\0\0\x04\0";
+    record(trace, 8000, 1, 12, 2);
+    record(trace, 8000, 1, 22, 2);
+    record(trace, 8000, 1, 34, 2);
+    record(trace, 8000, 1, 44, 2);
+    record(trace, 8000, 1, 0, 2);
+    record(trace, 8000, 1, 43, 2);
+    record(trace, 8000, 1, 50, 2);
+    record(trace, 8000, 1, 51, 2);
+    record(trace, 8000, 1, 18446744073709551615, 2);
+}
+
+// The tests that come before the record's own: 15 of the head, then 2. A head of another P finds a block of wrong length.
+fn refused_records() {
+    let trace = b"\x06\0\0\0\x01\0\x40\x1F\0\0\x01\0\x04\0\0\0\x02\0\x05\0\x06\0\0\0\0\0\x04\0";
+    record(trace, 0, 1, 12, 3);
+    record(trace, 8000, 0, 12, 1);
+    record(trace, 8000, 11, 12, 3);
+    record(trace, 8000, 18446744073709551615, 12, 3);
+    record(trace, 8000, 1, 12, 3);
+    record(trace, 8000, 1, 51, 0);
+    record(trace, 8000, 2, 12, 4);
+}
+
 // Checks a head with this payload, and an end.
 fn head_of(name: &[u8], payload: &[u8; 6]) {
     let mut trace = *b"\x06\0\0\0\x01\0\0\0\0\0\0\0\0\0\0\0\x04\0";
@@ -328,6 +361,51 @@ fn fetched_into(trace: &[u8], k: usize, cells: &mut [i64]) {
     print(b"\n");
 }
 
+// What fetch_record answers at a place, after a head of this rate and P, for so many cells, which hold 7.
+fn record(trace: &[u8], rate: usize, p: usize, at: usize, len: usize)
+    requires { ⌜ len ≤ 5 ⌝ }
+{
+    print_record(rate, p, at, len);
+    let mut cells = [7; 5];
+    record_into(trace, Head { rate, p }, at, &mut cells[..len]);
+}
+
+// The name of a record: the head that is handed over, its place and the number of cells.
+fn print_record(rate: usize, p: usize, at: usize, len: usize) {
+    print(b"head");
+    print_number(rate);
+    print_number(p);
+    print(b", record at");
+    print_number(at);
+    print(b" into");
+    print_number(len);
+    print(b" cells:");
+}
+
+// What fetch_record answers, and the cells that it leaves.
+fn record_into(trace: &[u8], head: Head, at: usize, cells: &mut [i64]) {
+    print_record_answer(trace::fetch_record(trace, head, at, cells));
+    print(b", cells");
+    print_cells(cells);
+    print(b"\n");
+}
+
+// What the record is and the place of the next one, or the refusal's number and place.
+fn print_record_answer(answer: RecordAnswer) {
+    match answer {
+        RecordAnswer::Block { next } => {
+            print(b" block, next");
+            print_number(next);
+        }
+        RecordAnswer::Note { next } => {
+            print(b" note, next");
+            print_number(next);
+        }
+        RecordAnswer::End => print(b" end"),
+        RecordAnswer::Refused(refusal) => print_refusal(refusal),
+    }
+}
+
 // Rate, P and the number of blocks, or the refusal's number and place.
 fn print_answer(answer: TraceAnswer) {
     match answer {
@@ -336,12 +414,14 @@ fn print_answer(answer: TraceAnswer) {
             print_number(head.p);
             print_number(blocks);
         }
-        TraceAnswer::Refused(refusal) => {
-            print(b" refused");
-            print_number(refusal.number());
-            print_number(refusal.place());
-        }
+        TraceAnswer::Refused(refusal) => print_refusal(refusal),
     }
+}
+
+fn print_refusal(refusal: Refusal) {
+    print(b" refused");
+    print_number(refusal.number());
+    print_number(refusal.place());
 }
 
 // The cells, each after a space.
