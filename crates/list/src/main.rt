@@ -3,9 +3,10 @@ use libc::STDERR_FILENO;
 use libc::STDIN_FILENO;
 use libc::STDOUT_FILENO;
 ghost use mathlib.Core.Path.{_≡_};
-ghost use Prim.Native.Nat.{_+_, _*_};
+ghost use Prim.Native.Nat.{_+_};
 ghost use lib.ListN.{length};
 ghost use Rattle.trace.specs.Contents.{LONGEST};
+ghost use Rattle.listing.specs.Workers.{ROOM};
 ghost use Rattle.list.specs.Input.{Fits};
 
 // What was read from standard input: so many bytes, or a read failed.
@@ -40,7 +41,7 @@ fn input_buffer() -> [u8; trace::LONGEST + 1]
 
 // Room for every listing.
 fn output_buffer() -> [u8; listing::ROOM]
-    ensures { λ r. ⌜ 32 * LONGEST ≡ length r ⌝ }
+    ensures { λ r. ⌜ ROOM ≡ length r ⌝ }
 {
     [0; listing::ROOM]
 }

@@ -1,8 +1,8 @@
 -- The digits of a number, how many there are, and the place of a text in a field.
 -- Example: `decimal-length 2 42 h l : length (decimal 42) ≤ 2`, with h : 1 ≤ 2 and l : 42 < 10 ^ 2.
-use mathlib.Core.Path.{_≡_, refl, _∙_, ap, ap₂}
+use mathlib.Core.Path.{_≡_, refl, sym, _∙_, ap, ap₂}
 use mathlib.Core.Bool.{Bool, true, false, cond}
-use mathlib.Core.List.{List, [], _∷_, _++_}
+use mathlib.Core.List.{List, [], _∷_, _++_, append-nil}
 use mathlib.Core.Logic.{_⊎_, inl, inr, ⊎-elim}
 use Prim.Native.Nat.{ℕ, zero, suc, _+_, _/_, _%_, _^_, _≤_, _<_}
 use native.Mathlib.Nat.{pow-suc}
@@ -10,12 +10,12 @@ use native.Mathlib.Omega.{arith}
 use borrow.Author.Tests.{lt-ltb, le-ltb, ltb-true, ltb-false}
 use lib.Dec.{ltb}
 use lib.IntN.{ℤ, pos, negsuc, natAbs}
-use lib.ListN.{length, getD, take, drop, length-append, length-drop, drop-of-length-le}
+use lib.ListN.{length, getD, take, drop, replicate, length-append, take-append-drop, drop-of-length-le}
 use lib.Seq.{drop-at, drop-cons, length-take-le}
 use Rattle.ints.specs.Written.{written}
 use Rattle.ints.proofs.Comparisons.{Less, AtMost}
-use Rattle.ints.proofs.Writing.{length-written}
-use Rattle.text.specs.Decimals.{MINUS, Spells, decimal, digit, digits, signed}
+use Rattle.ints.proofs.Writing.{written-before}
+use Rattle.text.specs.Decimals.{EMPTY, FIELD, MINUS, Spells, decimal, digit, digits, signedDecimal}
 
 -- ---- one digit alone, or more
 
@@ -68,36 +68,38 @@ decimal-length (suc (suc d)) n h l = let fewer = decimal-length (suc d) (n / 10)
 
 -- ---- the sign
 
-pub signed-below : (z : ℤ) (m : ℕ) → m ≡ natAbs z → Less z (pos 0) → (MINUS ∷ []) ++ decimal m ≡ signed z
-unfolding signed
+pub signed-below : (z : ℤ) (m : ℕ) → m ≡ natAbs z → Less z (pos 0) → (MINUS ∷ []) ++ decimal m ≡ signedDecimal z
+unfolding signedDecimal
 signed-below (pos n) m e h = absurd (omega arith)
 signed-below (negsuc n) m e h = rw e refl
 
-pub signed-from-zero : (z : ℤ) (m : ℕ) → m ≡ natAbs z → AtMost (pos 0) z → decimal m ≡ signed z
-unfolding signed
+pub signed-from-zero : (z : ℤ) (m : ℕ) → m ≡ natAbs z → AtMost (pos 0) z → decimal m ≡ signedDecimal z
+unfolding signedDecimal
 signed-from-zero (pos n) m e h = rw e refl
 signed-from-zero (negsuc n) m e h = absurd (omega arith)
 
 -- ---- a field
 
-pub spells-length : {text bytes : List ℕ} {from : ℕ} → Spells text bytes from → from + length text ≡ 21
-spells-length {text} {bytes} {from} s = omega (arith, ap length (s .spelled), length-drop from bytes)
+module _ {text bytes : List ℕ} {from : ℕ} (s : Spells text bytes from) where
+  -- from byte `from` on stands the text
+  pub spells-text : drop from bytes ≡ text
+  unfolding written
+  spells-text = ap (drop from) (s .stands) ∙ rw (s .ends, append-nil text) (drop-at (take from EMPTY) text from before-text)
+    where
+      before-text : length (take from EMPTY) ≡ from
+      before-text = length-take-le from EMPTY (omega (arith, s .ends))
+
+  -- one text more, written right before
+  pub spells-more : (more after : List ℕ) (at : ℕ) → at + length more ≡ from → after ≡ written bytes at more → Spells (more ++ text) after at
+  spells-more more after at e w = record {
+    ends = omega (arith, s .ends, length-append more text);
+    stands = w ∙ rw (s .stands, ← e) (written-before EMPTY at more text (omega (arith, s .ends)));
+  }
 
 -- the last byte alone
-pub spells-last : (bytes : List ℕ) (b : ℕ) → length bytes ≡ 21 → getD bytes 20 0 ≡ b → Spells (b ∷ []) bytes 20
-spells-last bytes b h e = record { room = h; begins = omega arith; spelled = drop-cons bytes 20 0 (omega arith) ∙ ap₂ (λ (v : ℕ) (l : List ℕ). v ∷ l) e end }
+pub spells-last : (bytes : List ℕ) (b : ℕ) → getD bytes 20 0 ≡ b → length bytes ≡ FIELD → take 20 bytes ≡ replicate 20 0 → Spells (b ∷ []) bytes 20
+unfolding written
+spells-last bytes b e h z = record { ends = refl; stands = sym (take-append-drop 20 bytes) ∙ ap₂ (λ (xs ys : List ℕ). xs ++ ys) z last }
   where
-    end : drop 21 bytes ≡ []
-    end = drop-of-length-le bytes {i = 21} (omega arith)
-
--- one text more, written right before
-module _ {text bytes : List ℕ} {from : ℕ} (s : Spells text bytes from) where
-  pub spells-more : (more after : List ℕ) (at : ℕ) → at + length more ≡ from → after ≡ written bytes at more → Spells (more ++ text) after at
-  unfolding written
-  spells-more more after at e w = record { room = long; begins = omega arith; spelled = rw (w, e, s .spelled) now }
-    where
-      long : length after ≡ 21
-      long = ap length w ∙ length-written bytes at more (omega arith) ∙ s .room
-
-      now : drop at (take at bytes ++ (more ++ text)) ≡ more ++ text
-      now = drop-at (take at bytes) (more ++ text) at (length-take-le at bytes (omega arith))
+    last : drop 20 bytes ≡ b ∷ []
+    last = drop-cons bytes 20 0 (omega arith) ∙ ap₂ (λ (v : ℕ) (l : List ℕ). v ∷ l) e (drop-of-length-le bytes {i = 21} (omega arith))

@@ -4,11 +4,14 @@ ghost use mathlib.Core.List.{[], _∷_, _++_};
 ghost use Prim.Native.Nat.{_+_, _%_, _≤_};
 ghost use lib.ListN.{length};
 ghost use Rattle.ints.specs.Written.{written};
-ghost use Rattle.text.specs.Decimals.{MINUS, Spells, decimal, digit, signed};
+ghost use Rattle.text.specs.Decimals.{MINUS, Spells, decimal, digit, signedDecimal};
 
-// A field of a line: a number as text, and the byte after it. It stands at the end of the bytes, from byte `from` on.
+// The bytes of a field.
+pub const FIELD: usize = 21;
+
+// A field of a line: a number as text, and the byte after it. It stands at the end of the bytes, from byte `from` on, with zeros before it.
 pub struct Field {
-    pub bytes: [u8; 21],
+    pub bytes: [u8; FIELD],
     pub from: usize,
 }
 
@@ -16,7 +19,7 @@ pub struct Field {
 pub fn decimal(x: u64, after: u8) -> Field
     ensures { λ r. ⌜ Spells (decimal x ++ (after ∷ [])) (r .bytes) (r .from) ⌝ }
 {
-    let mut bytes = [0u8; 21];
+    let mut bytes = [0u8; FIELD];
     bytes[20] = after;
     let from = put_digits(x, &mut bytes);
     Field { bytes, from }
@@ -24,7 +27,7 @@ pub fn decimal(x: u64, after: u8) -> Field
 
 // x in decimal, with a minus sign in front where it is negative.
 pub fn signed(x: i64, after: u8) -> Field
-    ensures { λ r. ⌜ Spells (signed x ++ (after ∷ [])) (r .bytes) (r .from) ⌝ }
+    ensures { λ r. ⌜ Spells (signedDecimal x ++ (after ∷ [])) (r .bytes) (r .from) ⌝ }
 {
     let field = decimal(ints::magnitude(x), after);
     if x < 0 { with_minus(field) } else { field }

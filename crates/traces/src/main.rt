@@ -98,7 +98,7 @@ fn each_block(name: &[u8], trace: &[u8]) {
     fetched(name, trace, 2, 2);
 }
 
-// The limits of a note, and of a trace: head 12, notes 251 * 261 + 7 and end 6 are 65,536 bytes.
+// The limits of a note, and of a trace: head 12, notes 251 * 261 + 7 and end 6 are 65,536 bytes. 10 comes before 15 and 2 of a record read by itself.
 fn notes(bytes: &mut [u8])
     requires { ⌜ 65537 ≡ length (now bytes) ⌝ }
 {

@@ -10,21 +10,21 @@ use lib.Signed.{natAbs-le}
 use mir.Facts.{toZ-ofZ}
 use Rattle.ints.specs.Written.{written}
 use Rattle.ints.proofs.Comparisons.{Less, AtMost, comparisons}
-use Rattle.text.specs.Decimals.{MINUS, Spells, decimal, signed}
-use Rattle.text.proofs.Laws.{decimal-length, signed-below, signed-from-zero, spells-length, spells-more}
+use Rattle.text.specs.Decimals.{MINUS, Spells, decimal, signedDecimal}
+use Rattle.text.proofs.Laws.{decimal-length, signed-below, signed-from-zero, spells-more}
 use Rattle.text.proofs.signed.Statement.{statement}
 use Rattle.text.proofs.signed.Tie as tie
 
 module _ (x : ℤ) (m after : ℕ) (e : m ≡ natAbs x) {bytes : List ℕ} {from : ℕ} (s : Spells (decimal m ++ (after ∷ [])) bytes from) where
   -- m has at most 19 digits
   sign-fits : natAbs x ≤ 2 ^ 63 → (1 ≤ from) × (from ≤ 20)
-  sign-fits h = let many = length-append (decimal m) (after ∷ []) in let place = spells-length s in
+  sign-fits h = let many = length-append (decimal m) (after ∷ []) in let place = s .ends in
       (omega (arith, decimal-length 19 m (omega arith) (omega arith)), omega arith)
 
-  with-sign : (at : ℕ) (more : List ℕ) → Less x (pos 0) → (at + 1 ≡ from) × (more ≡ written bytes at (MINUS ∷ [])) → Spells (signed x ++ (after ∷ [])) more at
+  with-sign : (at : ℕ) (more : List ℕ) → Less x (pos 0) → (at + 1 ≡ from) × (more ≡ written bytes at (MINUS ∷ [])) → Spells (signedDecimal x ++ (after ∷ [])) more at
   with-sign at more l p = rw (← signed-below x m e l) (spells-more s (MINUS ∷ []) more at (p .0) (p .1))
 
-  without-sign : AtMost (pos 0) x → Spells (signed x ++ (after ∷ [])) bytes from
+  without-sign : AtMost (pos 0) x → Spells (signedDecimal x ++ (after ∷ [])) bytes from
   without-sign l = rw (← signed-from-zero x m e l) s
 
 magnitude-requires : tie.Need-magnitude-requires

@@ -7,7 +7,7 @@ use native.Mathlib.Omega.{arith}
 use lib.ListN.{length, set}
 use Rattle.ints.specs.Written.{written}
 use Rattle.ints.proofs.Writing.{written-one}
-use Rattle.text.specs.Decimals.{MINUS}
+use Rattle.text.specs.Decimals.{FIELD, MINUS}
 use Rattle.text.proofs.with_minus.Statement.{statement}
 use Rattle.text.proofs.with_minus.Tie as tie
 
@@ -21,7 +21,7 @@ array-write-bytes : tie.Need-array-write-bytes
 array-write-bytes c = search needs
 
 returns : tie.Need-returns
-returns c = let long : length (c .before .before .args .field .bytes) ≡ 21 = search needs in
+returns c = let long : length (c .before .before .args .field .bytes) ≡ FIELD = search needs in
     (omega arith, sign-put _ _ _ (omega arith) (omega arith))
 
 pub with-minus-spec : {M : Type 1} → statement M
