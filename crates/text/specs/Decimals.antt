@@ -31,10 +31,11 @@ unfolding decimal
 signedDecimal (pos n) = decimal n
 signedDecimal (negsuc n) = MINUS ∷ decimal (suc n)
 
--- the bytes of a field: every number of 64 bits with its sign and the byte after it fits them
+-- how many bytes a field has: they hold every number of 64 bits with its sign, and the byte after it
 abbrev pub FIELD : ℕ
 FIELD = 21
 
+-- a field in which nothing stands yet
 abbrev pub EMPTY : List ℕ
 EMPTY = replicate FIELD 0
 

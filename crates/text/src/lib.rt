@@ -6,7 +6,7 @@ ghost use lib.ListN.{length};
 ghost use Rattle.ints.specs.Written.{written};
 ghost use Rattle.text.specs.Decimals.{MINUS, Spells, decimal, digit, signedDecimal};
 
-// The bytes of a field.
+// How many bytes a field has: they hold every number of 64 bits with its sign, and the byte after it.
 pub const FIELD: usize = 21;
 
 // A field of a line: a number as text, and the byte after it. It stands at the end of the bytes, from byte `from` on, with zeros before it.

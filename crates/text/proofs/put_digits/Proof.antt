@@ -13,17 +13,17 @@ use Rattle.text.proofs.put_digits.Statement.{statement}
 use Rattle.text.proofs.put_digits.Tie as tie
 
 -- of the digits before the last of x, those before the last of `rest` are left; the others stand from byte `from` to byte 18
-record Put (x : ℕ) (start bytes : List ℕ) (from rest : ℕ) : Type 0 where
+record PartPut (x : ℕ) (start bytes : List ℕ) (from rest : ℕ) : Type 0 where
   room : 20 ≤ length start
   standing : List ℕ
   all : before rest ++ standing ≡ before x
   place : from + length standing ≡ 19
   stand : bytes ≡ written start from standing
 
-none-yet : (x : ℕ) (start : List ℕ) (from rest : ℕ) → 20 ≤ length start → from ≡ 19 → rest ≡ x → Put x start start from rest
+none-yet : (x : ℕ) (start : List ℕ) (from rest : ℕ) → 20 ≤ length start → from ≡ 19 → rest ≡ x → PartPut x start start from rest
 none-yet x start from rest h ef er = record { room = h; standing = []; all = rw er (append-nil (before x)); place = omega arith; stand = sym (written-none start from) }
 
-module _ {x : ℕ} {start bytes : List ℕ} {from rest : ℕ} (p : Put x start bytes from rest) where
+module _ {x : ℕ} {start bytes : List ℕ} {from rest : ℕ} (p : PartPut x start bytes from rest) where
   as-long : length bytes ≡ length start
   as-long = ap length (p .stand) ∙ length-written start from (p .standing) (omega arith)
 
@@ -40,7 +40,7 @@ module _ {x : ℕ} {start bytes : List ℕ} {from rest : ℕ} (p : Put x start b
   )
 
   -- q is what is then left, and d its last digit
-  one-more : (q at d : ℕ) → 10 ≤ rest → q ≡ rest / 10 → at + 1 ≡ from → d ≡ digit (q % 10) → Put x start (set bytes at d) at q
+  one-more : (q at d : ℕ) → 10 ≤ rest → q ≡ rest / 10 → at + 1 ≡ from → d ≡ digit (q % 10) → PartPut x start (set bytes at d) at q
   one-more q at d h eq ea ed = record { room = p .room; standing = d ∷ p .standing; all = all-left; place = omega arith; stand = stand-now }
     where
       last : before q ++ (d ∷ []) ≡ before rest
@@ -67,7 +67,7 @@ module _ {x : ℕ} {start bytes : List ℕ} {from rest : ℕ} (p : Put x start b
       whole = written-before entry from (before x) (digit (x % 10) ∷ []) (omega (arith, seam)) ∙ ap (written entry from) (sym (decimal-is x))
 
 abbrev Inv-loop : tie.InvT-loop
-Inv-loop x bytes₀ from₀ rest₀ bytes from rest = Put x bytes₀ bytes from rest
+Inv-loop x bytes₀ from₀ rest₀ bytes from rest = PartPut x bytes₀ bytes from rest
 
 abbrev μ-loop : tie.MeasureT-loop
 μ-loop x bytes₀ from₀ rest₀ bytes from rest = rest
