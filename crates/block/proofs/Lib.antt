@@ -1,2 +1,3 @@
 pub mod Taken
 pub mod Limits
+pub mod Refused
