@@ -1,0 +1,4 @@
+pub mod Packing
+pub mod Counts
+pub mod Calls
+pub mod Left

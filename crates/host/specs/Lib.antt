@@ -1,0 +1,3 @@
+pub mod CellBytes
+pub mod Packing
+pub mod Workers
