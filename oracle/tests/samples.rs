@@ -1,0 +1,301 @@
+//! The samples of document 01, its refusals, and the bound E.
+
+use oracle::*;
+use std::io::Write;
+use std::process::{Command, Stdio};
+
+const SAMPLE_TRACE: [u8; 32] = [
+    0x06, 0x00, 0x00, 0x00, 0x01, 0x00, 0x40, 0x1F, 0x00, 0x00, 0x02, 0x00, 0x08, 0x00, 0x00, 0x00,
+    0x02, 0x00, 0x01, 0x00, 0x02, 0x00, 0x03, 0x00, 0x04, 0x00, 0x00, 0x00, 0x00, 0x00, 0x04, 0x00,
+];
+const SAMPLE_LISTING: &str = "trace 8000 4 1\n0 0 20 0 200\n0 1 -4 4 16\n0 2 -4 0 8\nend\n";
+
+fn refused<A>(number: u64, place: u64) -> Result<A, Refusal> {
+    Err(Refusal { number, place })
+}
+
+/// A record of the trace.
+fn record(kind: u16, payload: &[u8]) -> Vec<u8> {
+    let mut bytes = (payload.len() as u32).to_le_bytes().to_vec();
+    bytes.extend(kind.to_le_bytes());
+    bytes.extend(payload);
+    bytes
+}
+
+/// The payload of a head.
+fn head(rate: u32, p: u16) -> Vec<u8> {
+    let mut payload = rate.to_le_bytes().to_vec();
+    payload.extend(p.to_le_bytes());
+    payload
+}
+
+/// A head of P = 2 at 8,000 samples a second (12 bytes), then these bytes.
+fn after_head(rest: &[u8]) -> Vec<u8> {
+    let mut trace = record(1, &head(8000, 2));
+    trace.extend(rest);
+    trace
+}
+
+/// The cells in the old host's form.
+fn bytes_of(cells: &[i64]) -> Vec<u8> {
+    cells.iter().flat_map(|cell| cell.to_le_bytes()).collect()
+}
+
+/// Blocks of N = 2^P samples: the loudest ones, one loud sample alone, and freely mixed ones.
+fn blocks(p: u32) -> Vec<Vec<i64>> {
+    let n = 1_usize << p;
+    let mut alone = vec![0; n];
+    alone[n - 1] = -32_768;
+    let swinging = (0..n).map(|t| if t % 3 == 0 { 32_767 } else { -32_768 });
+    let mut all = vec![vec![-32_768; n], vec![32_767; n], alone, swinging.collect()];
+    let mut seed: u64 = 1 + u64::from(p);
+    for _ in 0..6 {
+        let mut mixed = Vec::new();
+        for _ in 0..n {
+            seed = seed.wrapping_mul(6364136223846793005).wrapping_add(1);
+            mixed.push((seed >> 48) as i64 - 32_768);
+        }
+        all.push(mixed);
+    }
+    all
+}
+
+#[test]
+fn table_cosines() {
+    let table: Vec<i64> = (0..=4).map(|j| table_cosine(64 * j)).collect();
+    assert_eq!(table, [32768, 30274, 23170, 12540, 0]);
+    for j in 0..=256 {
+        let entry = (fine_cosine(j) + (1 << 44)).div_euclid(1 << 45);
+        assert_eq!(i128::from(table_cosine(j)), entry);
+    }
+}
+
+#[test]
+fn fine_cosines_keep_the_half_angle_law() {
+    assert_eq!(fine_cosine(0), 1 << 60);
+    assert_eq!(fine_cosine(256), 0);
+    for j in 1..256 {
+        let x = ((1 << 60) + fine_cosine(2 * j)) * (1 << 59);
+        let root = fine_cosine(j);
+        assert!(root * root <= x && x < (root + 1) * (root + 1));
+    }
+}
+
+#[test]
+fn cosines_keep_the_symmetries_and_are_cosines() {
+    for j in -3000..3000_i64 {
+        assert_eq!(fine_cosine(-j), fine_cosine(j));
+        assert_eq!(fine_cosine(256 + j), -fine_cosine(256 - j));
+        assert_eq!(table_cosine(-j), table_cosine(j));
+        assert_eq!(table_cosine(256 + j), -table_cosine(256 - j));
+        let cosine = (j as f64 * std::f64::consts::TAU / 1024.0).cos();
+        let scale = (1_i64 << 60) as f64;
+        assert!((fine_cosine(j) as f64 / scale - cosine).abs() < 1e-13);
+    }
+}
+
+#[test]
+fn forward_worked_by_hand() {
+    assert_eq!(forward(&[0, 0]), Ok(vec![0, 0]));
+    assert_eq!(forward(&[3, -5]), Ok(vec![-2, 8]));
+    assert_eq!(forward(&[1, 2, 3, 4]), Ok(vec![10, -4, -2, 0]));
+    let eight = forward(&[1, 2, 3, 4, 5, 6, 7, 8]);
+    assert_eq!(eight, Ok(vec![36, -14, -8, -6, -4, -2, 0, 6]));
+    let delayed = forward(&[0, 1, 0, 0, 0, 0, 0, 0]);
+    assert_eq!(delayed, Ok(vec![1, 1, 1, 0, -1, -1, -1, 0]));
+}
+
+#[test]
+fn backward_worked_by_hand() {
+    assert_eq!(backward(&[10, -4, -2, 0]), Ok(vec![1, 2, 3, 4]));
+    // (x + 1) / 2, rounded down, of 1, -1 and -2
+    assert_eq!(backward(&[1, 0]), Ok(vec![1, 1]));
+    assert_eq!(backward(&[-1, 0]), Ok(vec![0, 0]));
+    assert_eq!(backward(&[-2, 0]), Ok(vec![-1, -1]));
+}
+
+#[test]
+fn direct_sums_worked_by_hand() {
+    let lines = direct(&[1, 2, 3, 4]);
+    assert_eq!(lines, [10, -4, -2, 0].map(|line: i128| line << 60));
+    let lines = direct(&[0, 1, 0, 0, 0, 0, 0, 0]);
+    let root_of_two = 2 * fine_cosine(128);
+    assert_eq!(lines[0..4], [1 << 60, root_of_two, 1 << 60, 0]);
+}
+
+#[test]
+fn e_is_respected_and_line_0_is_the_sum() {
+    for p in 1..=10 {
+        let bound = i128::from(E[p as usize - 1]) << 60;
+        for block in blocks(p) {
+            let spectrum = forward(&block).unwrap();
+            for (line, sum) in spectrum.iter().zip(direct(&block)) {
+                assert!(((i128::from(*line) << 60) - sum).abs() <= bound);
+            }
+            assert_eq!(spectrum[0], block.iter().sum::<i64>());
+        }
+    }
+}
+
+#[test]
+fn backward_of_forward_is_near_the_samples() {
+    for p in 1..=10 {
+        for block in blocks(p) {
+            let again = backward(&forward(&block).unwrap()).unwrap();
+            for (sample, cell) in block.iter().zip(again) {
+                // a distance found by trial; document 01 states none
+                assert!((sample - cell).abs() <= 2 * i64::from(p));
+            }
+        }
+    }
+}
+
+#[test]
+fn lengths() {
+    for count in [0, 1, 3, 1023, 2048] {
+        assert_eq!(forward(&vec![0; count]), refused(1, 0));
+        assert_eq!(backward(&vec![0; count]), refused(1, 0));
+        assert_eq!(parts(&vec![0; count], 0, 0), refused(1, 0));
+        assert_eq!(power(&vec![1 << 40; count], 0), refused(1, 0));
+    }
+    assert_eq!(forward(&[0; 1024]), Ok(vec![0; 1024]));
+    assert_eq!(backward(&[0; 1024]), Ok(vec![0; 1024]));
+}
+
+#[test]
+fn loud_cells() {
+    assert_eq!(forward(&[0, 0, 32_768, 32_768]), refused(3, 2));
+    assert_eq!(forward(&[0, -32_769]), refused(3, 1));
+    assert_eq!(forward(&[i64::MIN, 0]), refused(3, 0));
+    assert_eq!(forward(&[-32_768, 32_767]), Ok(vec![-1, -65_535]));
+    let bound = 1 << 28;
+    assert_eq!(backward(&[bound, -bound]), Ok(vec![0, bound]));
+    assert_eq!(backward(&[bound + 1, 0]), refused(3, 0));
+    assert_eq!(backward(&[0, -bound - 1]), refused(3, 1));
+    assert_eq!(parts(&[0, bound + 1], 2, 2), refused(3, 1));
+    assert_eq!(power(&[i64::MIN, 0], 2), refused(3, 0));
+    assert_eq!(power(&[bound, -bound], 2), Ok(vec![1 << 57, 1 << 57]));
+    assert!(backward(&[bound; 1024]).is_ok());
+}
+
+#[test]
+fn parts_and_power() {
+    let spectrum = [10, -4, -2, 0];
+    let doubled_parts = (vec![20, -4, -4], vec![0, 4, 0]);
+    assert_eq!(parts(&spectrum, 3, 3), Ok(doubled_parts));
+    assert_eq!(power(&spectrum, 3), Ok(vec![200, 16, 8]));
+    assert_eq!(parts(&spectrum, 2, 3), refused(2, 0));
+    assert_eq!(parts(&spectrum, 3, 4), refused(2, 0));
+    assert_eq!(power(&spectrum, 4), refused(2, 0));
+    assert_eq!(power(&[1 << 40; 4], 4), refused(2, 0));
+}
+
+#[test]
+fn accepted_traces() {
+    let held = contents(&SAMPLE_TRACE).unwrap();
+    assert_eq!((held.rate, held.p), (8000, 2));
+    assert_eq!(held.blocks, [[1, 2, 3, 4]]);
+    let long_note = after_head(&[record(3, &[7; 255]), record(4, &[])].concat());
+    assert_eq!(contents(&long_note).unwrap().blocks.len(), 0);
+    let loudest = record(2, &[0, 0x80, 0xFF, 0x7F, 0xFF, 0xFF, 1, 0]);
+    let held = contents(&after_head(&[loudest, record(4, &[])].concat())).unwrap();
+    assert_eq!(held.blocks, [[-32_768, 32_767, -1, 1]]);
+}
+
+#[test]
+fn refused_traces() {
+    let end = record(4, &[]);
+    assert_eq!(contents(&[]), refused(11, 0));
+    assert_eq!(contents(&vec![0; 65_536]), refused(12, 0));
+    assert_eq!(contents(&vec![0; 65_537]), refused(10, 0));
+    assert_eq!(contents(&[6, 0, 0, 0, 1]), refused(11, 0));
+    assert_eq!(contents(&[6, 0, 0, 0, 1, 0, 9]), refused(11, 0));
+    assert_eq!(contents(&[7, 0, 0, 0, 5, 0]), refused(12, 0));
+    assert_eq!(contents(&[7, 0, 0, 0, 4, 0]), refused(13, 0));
+    assert_eq!(contents(&[7, 0, 0, 0, 1, 0]), refused(14, 0));
+    assert_eq!(contents(&record(1, &head(0, 2))), refused(15, 0));
+    assert_eq!(contents(&record(1, &head(1, 0))), refused(15, 0));
+    assert_eq!(contents(&record(1, &head(1, 11))), refused(15, 0));
+    assert_eq!(contents(&record(1, &head(1, 10))), refused(11, 12));
+    assert_eq!(contents(&after_head(&end[0..5])), refused(11, 12));
+    assert_eq!(contents(&after_head(&record(1, &[]))), refused(13, 12));
+    assert_eq!(contents(&after_head(&record(2, &[0; 4]))), refused(14, 12));
+    assert_eq!(contents(&after_head(&record(2, &[0; 10]))), refused(14, 12));
+    assert_eq!(
+        contents(&after_head(&record(2, &[0; 8])[0..13])),
+        refused(11, 12)
+    );
+    assert_eq!(
+        contents(&after_head(&record(3, &[0; 256]))),
+        refused(14, 12)
+    );
+    assert_eq!(contents(&after_head(&record(4, &[0]))), refused(14, 12));
+    assert_eq!(
+        contents(&after_head(&[end, vec![9; 7]].concat())),
+        refused(13, 18)
+    );
+}
+
+#[test]
+fn fetches() {
+    assert_eq!(fetch(&SAMPLE_TRACE, 0, 4), Ok(vec![1, 2, 3, 4]));
+    assert_eq!(fetch(&SAMPLE_TRACE, 0, 5), refused(2, 0));
+    assert_eq!(fetch(&SAMPLE_TRACE, 1, 5), refused(16, 1));
+    assert_eq!(fetch(&SAMPLE_TRACE, u64::MAX, 4), refused(16, u64::MAX));
+    assert_eq!(fetch(&SAMPLE_TRACE[0..31], 1, 5), refused(11, 26));
+}
+
+#[test]
+fn listings() {
+    assert_eq!(listing(&SAMPLE_TRACE), SAMPLE_LISTING.as_bytes());
+    assert_eq!(listing(&SAMPLE_TRACE[0..31]), b"refused 11 26\n");
+    assert_eq!(listing(&[]), b"refused 11 0\n");
+    let empty = after_head(&record(4, &[]));
+    assert_eq!(listing(&empty), b"trace 8000 4 0\nend\n");
+}
+
+#[test]
+fn listing_program() {
+    let mut program = Command::new(env!("CARGO_BIN_EXE_oracle"))
+        .stdin(Stdio::piped())
+        .stdout(Stdio::piped())
+        .spawn()
+        .unwrap();
+    let mut input = program.stdin.take().unwrap();
+    input.write_all(&SAMPLE_TRACE).unwrap();
+    drop(input);
+    let output = program.wait_with_output().unwrap();
+    assert!(output.status.success());
+    assert_eq!(output.stdout, SAMPLE_LISTING.as_bytes());
+}
+
+#[test]
+fn bytes_of_the_old_host() {
+    let mut lent = bytes_of(&[1, 2, 3, 4]);
+    assert_eq!(forward_bytes(&mut lent), Ok(()));
+    assert_eq!(lent, bytes_of(&[10, -4, -2, 0]));
+    let mut output = vec![9; 24];
+    assert_eq!(power_bytes(&lent, &mut output), Ok(()));
+    assert_eq!(output, bytes_of(&[200, 16, 8]));
+    assert_eq!(backward_bytes(&mut lent), Ok(()));
+    assert_eq!(lent, bytes_of(&[1, 2, 3, 4]));
+}
+
+#[test]
+fn refused_bytes_keep_their_contents() {
+    let loud = bytes_of(&[0, 1 << 40]);
+    let mut lent = loud.clone();
+    assert_eq!(forward_bytes(&mut lent), refused(3, 1));
+    assert_eq!(backward_bytes(&mut lent), refused(3, 1));
+    assert_eq!(forward_bytes(&mut lent[0..15]), refused(1, 0));
+    assert_eq!(backward_bytes(&mut lent[0..15]), refused(1, 0));
+    assert_eq!(forward_bytes(&mut lent[0..8]), refused(1, 0));
+    assert_eq!(lent, loud);
+    let mut output = vec![9; 17];
+    assert_eq!(power_bytes(&loud[0..15], &mut output), refused(1, 0));
+    assert_eq!(power_bytes(&loud[0..8], &mut output), refused(1, 0));
+    assert_eq!(power_bytes(&loud, &mut output), refused(2, 0));
+    assert_eq!(power_bytes(&loud, &mut output[0..8]), refused(2, 0));
+    assert_eq!(power_bytes(&loud, &mut output[0..16]), refused(3, 1));
+    assert_eq!(output, [9; 17]);
+}
