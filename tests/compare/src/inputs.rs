@@ -1,0 +1,99 @@
+//! Blocks of samples and spectra, within the limits and outside them.
+
+use crate::random::Random;
+
+/// The permitted lengths, for P from 1 to 10.
+pub const LENGTHS: [usize; 10] = [2, 4, 8, 16, 32, 64, 128, 256, 512, 1024];
+
+/// The least and the largest sample, and the least and the largest line of a spectrum.
+pub const SAMPLES: (i64, i64) = (-32_768, 32_767);
+pub const LINES: (i64, i64) = (-(1 << 28), 1 << 28);
+
+/// The shapes of a block. Those that stand here twice come twice as often.
+pub const SHAPES: [&str; 13] = [
+    "full range", "signs of cas", "up to 100", "all lowest", "either limit", "single cell", "full range",
+    "signs of cas", "up to 1", "all highest", "alternating", "ramp", "zeros",
+];
+
+/// A block of n cells of the named shape, each from low to high.
+pub fn shaped(shape: &str, n: usize, (low, high): (i64, i64), random: &mut Random) -> Vec<i64> {
+    let place = random.below(n.max(1));
+    let any = random.between(low, high);
+    let single = random.pick(&[1, -1, low, high, any]);
+    let step = random.between(-high / 64, high / 64);
+    let (more, less) = random.pick(&[(high, low), (low, high)]);
+    let mut cells = Vec::new();
+    for t in 0..n {
+        cells.push(match shape {
+            "full range" => random.between(low, high),
+            "up to 100" => random.between(-100, 100),
+            "up to 1" => random.between(-1, 1),
+            "all lowest" => low,
+            "all highest" => high,
+            "either limit" => random.pick(&[low, high]),
+            "single cell" if t == place => single,
+            "ramp" => (any + step * t as i64).clamp(low, high),
+            "alternating" if t % 2 == 0 => more,
+            "alternating" => less,
+            "signs of cas" if cas(place * t * 1024 / n) >= 0 => more,
+            "signs of cas" => less,
+            _ => 0,
+        });
+    }
+    cells
+}
+
+/// Cosine plus sine after j of a turn's 1,024 steps. Samples of its sign make a line as large as it can be.
+fn cas(j: usize) -> i64 {
+    let j = (j % 1024) as i64;
+    oracle::table_cosine(j) + oracle::table_cosine((j + 768) % 1024)
+}
+
+/// Puts values outside the limits into one to four cells.
+pub fn make_loud(cells: &mut [i64], (low, high): (i64, i64), random: &mut Random) {
+    for _ in 0..random.between(1, 4) {
+        let far = random.between(high + 1, i64::MAX);
+        let value = random.pick(&[low - 1, high + 1, i64::MIN, i64::MAX, far, -far]);
+        if !cells.is_empty() {
+            cells[random.below(cells.len())] = value;
+        }
+    }
+}
+
+/// The bytes of a block and an output, with and without each fault: wrong length, bytes left over, loud cells, misfit.
+pub fn several_faults(limits: (i64, i64), random: &mut Random) -> (Vec<u8>, Vec<u8>) {
+    let n = random.pick(&LENGTHS);
+    let any = random.below(1100);
+    let count = random.pick(&[n, n, n, any]);
+    let mut cells = shaped("full range", count, limits, random);
+    if random.once_in(2) {
+        make_loud(&mut cells, limits, random);
+    }
+    let mut bytes = bytes_of(&cells);
+    if random.once_in(4) {
+        let left_over = random.below(8);
+        bytes.extend(random.bytes(left_over));
+    }
+    let fit = 8 * (n / 2 + 1);
+    let near = fit + 9 - random.below(19);
+    let output = random.pick(&[fit, fit, near, 8 * any]);
+    (bytes, random.bytes(output))
+}
+
+/// Cells as bytes, least byte first.
+pub fn bytes_of(cells: &[i64]) -> Vec<u8> {
+    let mut bytes = Vec::new();
+    for cell in cells {
+        bytes.extend_from_slice(&cell.to_le_bytes());
+    }
+    bytes
+}
+
+/// Bytes as cells, least byte first.
+pub fn cells_of(bytes: &[u8]) -> Vec<i64> {
+    let mut cells = Vec::new();
+    for eight in bytes.chunks_exact(8) {
+        cells.push(i64::from_le_bytes(eight.try_into().expect("eight bytes")));
+    }
+    cells
+}

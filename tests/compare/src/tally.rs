@@ -1,0 +1,74 @@
+//! Counts what was run and how it was answered, and prints the tables.
+
+use std::collections::{BTreeMap, BTreeSet};
+use std::process::exit;
+
+#[derive(Clone, Copy, Debug, PartialEq, Eq, PartialOrd, Ord)]
+pub enum Call {
+    Forward,
+    Backward,
+    Power,
+    Check,
+    List,
+}
+
+const NUMBERS: [usize; 9] = [1, 2, 3, 10, 11, 12, 13, 14, 15];
+
+/// Inputs of a call and a sort: how many were accepted, refused by 1, by 2 and so on.
+type Rows = BTreeMap<(Call, &'static str), [u64; 16]>;
+
+#[derive(Default)]
+pub struct Tally {
+    pub inputs: u64,
+    rows: Rows,
+    totals: Rows,
+    accepted: BTreeSet<(Call, u32)>, // each P that each call accepted
+    pub measured: [u64; 11],         // for each P the blocks measured
+    pub farthest: [i128; 11],        // and the largest distance, times 2^60
+}
+
+impl Tally {
+    /// Counts one input: the number of its refusal, or 0 and the P that was accepted.
+    pub fn count(&mut self, call: Call, sort: &'static str, number: u64, p: u32) {
+        self.inputs += 1;
+        self.rows.entry((call, sort)).or_default()[number as usize] += 1;
+        self.totals.entry((call, "all")).or_default()[number as usize] += 1;
+        if number == 0 {
+            self.accepted.insert((call, p));
+        }
+    }
+
+    pub fn print(&self) {
+        let numbers = NUMBERS.map(|number| format!("{number:>7}")).concat();
+        println!("{:36}{:>8}{:>9}{numbers}", "inputs", "run", "accepted");
+        for ((call, sort), row) in self.rows.iter().chain(&self.totals) {
+            let run: u64 = row.iter().sum();
+            let refused = NUMBERS.map(|number| format!("{:>7}", row[number])).concat();
+            println!("{:36}{run:>8}{:>9}{refused}", format!("{call:?}, {sort}"), row[0]);
+        }
+        println!("\n{:>2}{:>9}{:>18}{:>8}", "P", "blocks", "largest distance", "E(P)");
+        for p in 1..=10 {
+            let far = self.farthest[p] * 1000 / (1 << 60);
+            let far = format!("{}.{:03}", far / 1000, far % 1000);
+            println!("{p:>2}{:>9}{far:>18}{:>8}", self.measured[p], oracle::E[p - 1]);
+        }
+    }
+
+    /// Ends the program if a call never accepted some P or never gave one of its refusals.
+    pub fn must_be_complete(&self) {
+        for (call, refusals) in [
+            (Call::Forward, &[1, 3][..]),
+            (Call::Backward, &[1, 3]),
+            (Call::Power, &[1, 2, 3]),
+            (Call::Check, &[10, 11, 12, 13, 14, 15]),
+            (Call::List, &[10, 11, 12, 13, 14, 15]),
+        ] {
+            let every_refusal = refusals.iter().all(|&no| self.totals[&(call, "all")][no] > 0);
+            let every_p = (1..=10).all(|p| self.accepted.contains(&(call, p)));
+            if !every_refusal || !every_p {
+                println!("comparison: {call:?} has not shown every refusal and every P");
+                exit(1);
+            }
+        }
+    }
+}

@@ -1,0 +1,182 @@
+//! Accepted traces, and ways to damage them.
+
+use crate::inputs::{shaped, SAMPLES, SHAPES};
+use crate::random::Random;
+
+/// The most bytes that a trace may have.
+pub const LONGEST: usize = 65_536;
+
+/// The ways to damage a trace; the last takes two of the others.
+pub const DAMAGES: [&str; 15] = [
+    "undamaged", "cut", "changed byte", "changed record head", "changed length", "unknown kind", "exchanged records",
+    "second head", "doubled record", "rate 0", "wrong P", "tail", "byte put in", "byte left out", "two damages",
+];
+
+/// One record. Its length field may differ from the length of its payload.
+#[derive(Clone)]
+pub struct Record {
+    length: u32,
+    kind: u16,
+    payload: Vec<u8>,
+}
+
+pub fn record(kind: u16, payload: Vec<u8>) -> Record {
+    Record { length: payload.len() as u32, kind, payload }
+}
+
+pub fn head(rate: u32, p: u16) -> Record {
+    record(1, [&rate.to_le_bytes()[..], &p.to_le_bytes()[..]].concat())
+}
+
+pub fn end() -> Record {
+    record(4, Vec::new())
+}
+
+pub fn bytes(records: &[Record]) -> Vec<u8> {
+    let mut bytes = Vec::new();
+    for record in records {
+        bytes.extend_from_slice(&record.length.to_le_bytes());
+        bytes.extend_from_slice(&record.kind.to_le_bytes());
+        bytes.extend_from_slice(&record.payload);
+    }
+    bytes
+}
+
+fn any_head(p: u16, random: &mut Random) -> Record {
+    let any = random.between(1, u32::MAX.into()) as u32;
+    head(random.pick(&[1, 8000, u32::MAX, any]), p)
+}
+
+fn any_block(p: u16, random: &mut Random) -> Record {
+    let shape = random.pick(&SHAPES);
+    let mut payload = Vec::new();
+    for sample in shaped(shape, 1 << p, SAMPLES, random) {
+        payload.extend_from_slice(&(sample as i16).to_le_bytes());
+    }
+    record(2, payload)
+}
+
+fn any_note(random: &mut Random) -> Record {
+    let any = random.below(256);
+    let count = random.pick(&[0, 1, 255, any, any]);
+    record(3, random.bytes(count))
+}
+
+/// A short accepted trace.
+pub fn short(random: &mut Random) -> Vec<Record> {
+    let p = random.between(1, 10) as u16;
+    let mut records = vec![any_head(p, random)];
+    for _ in 0..random.below(6) {
+        records.push(if random.once_in(2) { any_note(random) } else { any_block(p, random) });
+    }
+    records.push(end());
+    records
+}
+
+/// A trace of exactly so many bytes, more than 300, with no fault but perhaps that of being long.
+pub fn filled(count: usize, random: &mut Random) -> Vec<Record> {
+    let p = random.between(1, 10) as u16;
+    let notes = random.below(3); // so many quarters of the records
+    let mut records = vec![any_head(p, random)];
+    let mut left = count - 18; // the head has 12 bytes, the end 6
+    while left > 261 {
+        let note = random.below(4) < notes;
+        let mut next = if note { any_note(random) } else { any_block(p, random) };
+        if next.payload.len() + 12 > left {
+            next = record(3, random.bytes(200));
+        }
+        left -= next.payload.len() + 6;
+        records.push(next);
+    }
+    records.push(record(3, random.bytes(left - 6)));
+    records.push(end());
+    records
+}
+
+/// The bytes of a trace after the named damage.
+pub fn damaged(damage: &'static str, records: &[Record], random: &mut Random) -> Vec<u8> {
+    let mut damages = vec![damage];
+    if damage == "two damages" {
+        damages = vec![random.pick(&DAMAGES[..14]), random.pick(&DAMAGES[..14])];
+    }
+    let mut records = records.to_vec();
+    for damage in &damages {
+        damage_records(damage, &mut records, random);
+    }
+    let mut trace = bytes(&records);
+    for damage in &damages {
+        damage_bytes(damage, &mut trace, random);
+    }
+    trace
+}
+
+fn damage_records(damage: &str, records: &mut Vec<Record>, random: &mut Random) {
+    let one = random.below(records.len());
+    let other = random.below(records.len());
+    let any = random.next();
+    match damage {
+        "changed record head" => {
+            let change = (1 + any % 255) << (8 * random.below(6));
+            records[one].length ^= change as u32;
+            records[one].kind ^= (change >> 32) as u16;
+        }
+        "changed length" => {
+            let near = records[one].length ^ random.pick(&[1, 2, 4, 65_536, 1 << 31]);
+            records[one].length = random.pick(&[near, near, near, 0, 6, 255, 256, any as u32]);
+        }
+        "unknown kind" => records[one].kind = random.pick(&[0, 5, 256, 257, 65_535, any as u16 | 8]),
+        "exchanged records" => records.swap(one, other),
+        "second head" => records.insert(one + 1, records[0].clone()),
+        "doubled record" => records.insert(one, records[one].clone()),
+        "rate 0" if records[0].payload.len() >= 6 => records[0].payload[..4].fill(0),
+        "wrong P" if records[0].payload.len() >= 6 => {
+            let p: u16 = random.pick(&[0, 11, 12, 256, 257, 65_535]);
+            records[0].payload[4..6].copy_from_slice(&p.to_le_bytes());
+        }
+        _ => {}
+    }
+}
+
+fn damage_bytes(damage: &str, trace: &mut Vec<u8>, random: &mut Random) {
+    let at = random.below(trace.len().max(1));
+    match damage {
+        "cut" => trace.truncate(at),
+        "tail" => {
+            let count = 1 + random.below(12);
+            trace.extend(random.bytes(count));
+        }
+        "byte put in" => trace.insert(at, random.next() as u8),
+        "changed byte" if !trace.is_empty() => trace[at] ^= random.between(1, 255) as u8,
+        "byte left out" if !trace.is_empty() => drop(trace.remove(at)),
+        _ => {}
+    }
+}
+
+/// A few records of any kind, length and contents, right and wrong, mostly behind a head whose rate is at times 0.
+pub fn any_records(random: &mut Random) -> Vec<u8> {
+    let p = random.between(1, 3) as u16;
+    let mut records = Vec::new();
+    if !random.once_in(4) {
+        records.push(head(u32::from(!random.once_in(8)), p));
+    }
+    for _ in 0..random.below(5) {
+        let any = random.below(20);
+        let count = random.pick(&[0, 6, 2 << p, 2 << p, 255, 256, any]);
+        let mut next = record(random.between(0, 5) as u16, random.bytes(count));
+        if next.kind == 1 && random.once_in(2) {
+            next = head(random.between(0, 1) as u32, random.between(0, 11) as u16);
+        }
+        if random.once_in(4) {
+            next.length = random.pick(&[0, 1, 6, 2 << p, 255, 256, 65_536, u32::MAX]);
+        }
+        records.push(next);
+    }
+    if random.once_in(2) {
+        records.push(end());
+    }
+    let mut trace = bytes(&records);
+    if random.once_in(4) {
+        trace.truncate(trace.len().saturating_sub(random.below(12)));
+    }
+    trace
+}
