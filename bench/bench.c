@@ -1,0 +1,492 @@
+/*
+ * Times the archive and the listing program against the same rules in C, and forward and backward also against FFTW's
+ * DHT where it is installed. Prints tables in Markdown. Usage: bench FOLDER LIST LISTER EMPTY: a folder for traces, the
+ * listing program, the one in C and a program that does nothing.
+ */
+#define _POSIX_C_SOURCE 200809L
+
+#include "hartley.h"
+#include "rule.h"
+
+#include <fcntl.h>
+#include <math.h>
+#include <spawn.h>
+#include <stdio.h>
+#include <stdlib.h>
+#include <string.h>
+#include <sys/wait.h>
+#include <time.h>
+#include <unistd.h>
+#ifdef WITH_FFTW
+#include <fftw3.h>
+enum { FFTW = 1 };
+#else
+enum { FFTW = 0 };
+#endif
+
+enum { ROUNDS = 101, FEWEST = 5, CELL = 8 };
+static const double SLICE = 3e5;    /* ns of one contender in one round, at least */
+static const double BUDGET = 5e9;   /* ns of one row of a table, above which it has fewer rounds */
+
+static _Noreturn void fail(const char *what)
+{
+    fflush(stdout);
+    fprintf(stderr, "bench: failed: %s\n", what);
+    exit(1);
+}
+
+/* Timing */
+
+struct contender {
+    void (*call)(void);
+    double times[ROUNDS];           /* ns per call, one for each round */
+    double best, median, spread;    /* spread: between the quartiles, as a part of the median */
+    double ratio;                   /* of the first contender to this one: the median of the rounds' ratios */
+};
+
+static double lowest = 1, highest = 1;      /* A/A ratios of the whole run */
+
+static double now(void)
+{
+    struct timespec t;
+    clock_gettime(CLOCK_MONOTONIC, &t);
+    return 1e9 * (double)t.tv_sec + (double)t.tv_nsec;
+}
+
+static double time_of(void (*call)(void), long calls)
+{
+    double start = now();
+    for (long i = 0; i < calls; i++)
+        call();
+    return now() - start;
+}
+
+static int by_size(const void *a, const void *b)
+{
+    double x = *(const double *)a, y = *(const double *)b;
+    return (x > y) - (x < y);
+}
+
+/* Times the contenders in turn, round by round, each round beginning with another. The first two are one and the same. */
+static void measure(struct contender *list, int count)
+{
+    long calls[4];
+    double round = 0;
+    for (int i = 0; i < count; i++) {
+        double spent = time_of(list[i].call, calls[i] = 1);
+        while (spent < SLICE)
+            spent = time_of(list[i].call, calls[i] *= 2);
+        round += spent;
+    }
+    int rounds = (int)fmax(FEWEST, fmin(ROUNDS, BUDGET / round));
+    for (int r = 0; r < rounds; r++)
+        for (int i = 0; i < count; i++) {
+            int k = (i + r) % count;
+            list[k].times[r] = time_of(list[k].call, calls[k]) / (double)calls[k];
+        }
+    for (int i = count - 1; i >= 0; i--) {
+        struct contender *c = &list[i];
+        double ratios[ROUNDS];
+        for (int r = 0; r < rounds; r++)
+            ratios[r] = list[0].times[r] / c->times[r];
+        qsort(ratios, (size_t)rounds, sizeof ratios[0], by_size);
+        qsort(c->times, (size_t)rounds, sizeof c->times[0], by_size);
+        c->ratio = ratios[rounds / 2];
+        c->best = c->times[0];
+        c->median = c->times[rounds / 2];
+        c->spread = (c->times[rounds * 3 / 4] - c->times[rounds / 4]) / c->median;
+    }
+    lowest = fmin(lowest, list[1].ratio);
+    highest = fmax(highest, list[1].ratio);
+}
+
+/* The head of a table, from its columns with a bar after each. */
+static void print_head(const char *columns)
+{
+    printf("\n|%s\n|", columns);
+    for (; *columns != '\0'; columns++)
+        if (*columns == '|')
+            printf("---:|");
+    printf("\n");
+}
+
+/* Best and median of each contender, in units of so many ns; the second is the first again and has no column. */
+static void print_times(const struct contender *list, int count, double unit)
+{
+    for (int i = 0; i < count; i++)
+        if (i != 1)
+            printf(" %.0f / %.0f |", list[i].best / unit, list[i].median / unit);
+}
+
+/* The last columns of a table: A/A, the largest spread, and growth over the best of the row before, or none if that is 0. */
+static void print_end(const struct contender *list, int count, double before)
+{
+    double spread = 0;
+    for (int i = 0; i < count; i++)
+        spread = fmax(spread, list[i].spread);
+    printf(" %.2f | %.0f %% |", list[1].ratio, 100 * spread);
+    if (before > 0)
+        printf(" %.2f |\n", list[0].best / before);
+    else
+        printf(" |\n");
+    fflush(stdout);
+}
+
+/* Blocks */
+
+static size_t n, p;
+static uint8_t fresh_bytes[CELL * LARGEST], warm_bytes[CELL * LARGEST];
+static int64_t fresh_cells[LARGEST], warm_cells[LARGEST];
+static double fresh_reals[LARGEST], *warm_reals;
+static uint8_t power_bytes[CELL * (LARGEST / 2 + 1)];
+static int64_t power_cells[LARGEST / 2 + 1];
+
+/* Each call gets a fresh copy of the block, in one warm buffer that is not cleared before. */
+static void archive_forward(void)
+{
+    memcpy(warm_bytes, fresh_bytes, CELL * n);
+    if (hartley_forward(warm_bytes, CELL * n) != 0)
+        fail("the archive's forward refuses");
+}
+
+static void archive_backward(void)
+{
+    memcpy(warm_bytes, fresh_bytes, CELL * n);
+    if (hartley_backward(warm_bytes, CELL * n) != 0)
+        fail("the archive's backward refuses");
+}
+
+static void rule_c_forward(void)
+{
+    memcpy(warm_cells, fresh_cells, CELL * n);
+    if (rule_forward(warm_cells, n) != 0)
+        fail("the rule's forward refuses");
+}
+
+static void rule_c_backward(void)
+{
+    memcpy(warm_cells, fresh_cells, CELL * n);
+    if (rule_backward(warm_cells, n) != 0)
+        fail("the rule's backward refuses");
+}
+
+static void archive_power(void)
+{
+    if (hartley_power(fresh_bytes, CELL * n, power_bytes, CELL * (n / 2 + 1)) != 0)
+        fail("the archive's power refuses");
+}
+
+static void rule_c_power(void)
+{
+    if (rule_power(fresh_cells, n, power_cells, n / 2 + 1) != 0)
+        fail("the rule's power refuses");
+}
+
+#ifdef WITH_FFTW
+static fftw_plan plan;
+
+static void make_plan(void)
+{
+    if (warm_reals == NULL)
+        warm_reals = fftw_alloc_real(LARGEST);
+    else
+        fftw_destroy_plan(plan);
+    plan = fftw_plan_r2r_1d((int)n, warm_reals, warm_reals, FFTW_DHT, FFTW_MEASURE);
+}
+
+static void fftw_forward(void)
+{
+    memcpy(warm_reals, fresh_reals, sizeof(double) * n);
+    fftw_execute(plan);
+}
+
+static void fftw_backward(void)
+{
+    fftw_forward();
+    for (size_t t = 0; t < n; t++)
+        warm_reals[t] *= 1.0 / (double)n;
+}
+#else
+static void make_plan(void) {}
+static void fftw_forward(void) {}
+static void fftw_backward(void) {}
+#endif
+
+/* A random whole number of 16 bits, the same in every run. */
+static uint16_t noise(void)
+{
+    static uint64_t x = 88172645463325252u;
+    x ^= x << 13;
+    x ^= x >> 7;
+    x ^= x << 17;
+    return (uint16_t)(x >> 40);
+}
+
+static void put_cell(uint8_t *at, int64_t cell)
+{
+    for (int i = 0; i < CELL; i++)
+        at[i] = (uint8_t)((uint64_t)cell >> 8 * i);
+}
+
+static void set_fresh(size_t t, int64_t cell)
+{
+    fresh_cells[t] = cell;
+    fresh_reals[t] = (double)cell;
+    put_cell(fresh_bytes + CELL * t, cell);
+}
+
+static void expect_same(const uint8_t *bytes, const int64_t *cells, size_t count)
+{
+    uint8_t at[CELL];
+    for (size_t i = 0; i < count; i++) {
+        put_cell(at, cells[i]);
+        if (memcmp(at, bytes + CELL * i, CELL) != 0)
+            fail("the archive and the rule in C differ");
+    }
+}
+
+/* FFTW's cells are near to those of the rule in C. */
+static void expect_near(double distance)
+{
+    for (size_t t = 0; FFTW && t < n; t++)
+        if (fabs(warm_reals[t] - (double)warm_cells[t]) > distance)
+            fail("FFTW and the rule in C differ");
+}
+
+/* One direction for all lengths: random samples forward, or their spectrum backward. */
+static void time_direction(int forward)
+{
+    static const double E[] = {0, 0, 0, 5, 22, 72, 213, 598, 1624, 4317, 11306};    /* the papers' bound, for P from 0 */
+    double before = 0;
+    for (p = 1; p <= 10; p++) {
+        struct contender list[4] = {
+            {.call = forward ? archive_forward : archive_backward},
+            {.call = forward ? archive_forward : archive_backward},
+            {.call = forward ? rule_c_forward : rule_c_backward},
+            {.call = forward ? fftw_forward : fftw_backward},
+        };
+        n = (size_t)1 << p;
+        make_plan();
+        for (size_t t = 0; t < n; t++)
+            set_fresh(t, (int64_t)noise() - 32768);
+        if (!forward) {
+            rule_c_forward();
+            for (size_t v = 0; v < n; v++)
+                set_fresh(v, warm_cells[v]);
+        }
+        for (int i = 0; i < 4; i++)
+            list[i].call();
+        expect_same(warm_bytes, warm_cells, n);
+        expect_near(forward ? E[p] + 0.01 : 25);
+
+        measure(list, 3 + FFTW);
+        printf("| %zu | %zu |", p, n);
+        print_times(list, 3 + FFTW, 1);
+        printf(" %.2f |", list[2].ratio);
+        if (FFTW)
+            printf(" %.2f |", list[3].ratio);
+        print_end(list, 3 + FFTW, before);
+        before = list[0].best;
+    }
+}
+
+static void time_blocks(void)
+{
+    const char *columns = FFTW ? " P | N | archive | C | FFTW | archive/C | archive/FFTW | A/A | spread | growth |"
+                               : " P | N | archive | C | archive/C | A/A | spread | growth |";
+    printf("\nForward, ns per call (best / median); growth of the archive's best per doubling of N:\n");
+    print_head(columns);
+    time_direction(1);
+    printf("\nBackward, ns per call (best / median); growth of the archive's best per doubling of N:\n");
+    print_head(columns);
+    time_direction(0);
+}
+
+/* The power of the spectrum that was last timed: P = 10. */
+static void time_power(void)
+{
+    struct contender list[3] = {{.call = archive_power}, {.call = archive_power}, {.call = rule_c_power}};
+    archive_power();
+    rule_c_power();
+    expect_same(power_bytes, power_cells, n / 2 + 1);
+    measure(list, 3);
+    printf("\nPower, ns per call (best / median):\n");
+    print_head(" P | N | archive | C | archive/C | A/A | spread | growth |");
+    printf("| 10 | %zu |", n);
+    print_times(list, 3, 1);
+    printf(" %.2f |", list[2].ratio);
+    print_end(list, 3, 0);
+}
+
+/* Traces */
+
+static uint8_t trace[LONGEST + CELL];   /* the last record's six bytes are written as a cell */
+static size_t trace_bytes, records;
+
+static void put_record(uint32_t length, uint8_t kind)
+{
+    uint8_t *at = trace + trace_bytes;
+    put_cell(at, length | (int64_t)kind << 32);
+    for (uint32_t i = 0; i < length; i++)
+        at[6 + i] = (uint8_t)noise();
+    trace_bytes += 6 + length;
+    records++;
+}
+
+/* A trace of so many bytes: a head, as many blocks as fit, notes for the rest, the end. With P 0: notes of 0 bytes. */
+static void make_trace(size_t bytes, size_t digits)
+{
+    size_t block = digits == 0 ? 6 : 6 + ((size_t)2 << digits), room = bytes - 18, blocks = room / block;
+    trace_bytes = records = 0;
+    put_record(6, HEAD);
+    put_cell(trace + 6, 48000 | (int64_t)(digits == 0 ? 1 : digits) << 32);
+    if (room % block > 0 && room % block < 6)
+        blocks--;
+    for (size_t k = 0; k < blocks; k++)
+        put_record((uint32_t)block - 6, digits == 0 ? NOTE : BLOCK);
+    for (size_t left = room - blocks * block; left > 0; left = bytes - 6 - trace_bytes)
+        put_record(left <= 255 ? (uint32_t)left - 6 : 200, NOTE);
+    put_record(0, END);
+}
+
+static uint64_t answer;
+
+static void archive_check(void)
+{
+    answer = hartley_check(trace, trace_bytes);
+}
+
+static void rule_c_check(void)
+{
+    answer = rule_check(trace, trace_bytes);
+}
+
+static void time_checks(void)
+{
+    printf("\nCheck, ns per call (best / median); growth of the archive's best per fourfold length:\n");
+    print_head(" blocks of P | bytes | records | blocks | archive | C | archive/C | A/A | spread | growth |");
+    for (size_t shape = 0; shape < 3; shape++) {
+        double before = 0;
+        for (size_t bytes = 1024; bytes <= LONGEST; bytes *= 4) {
+            struct contender list[3] = {{.call = archive_check}, {.call = archive_check}, {.call = rule_c_check}};
+            size_t digits = shape == 0 ? 1 : shape == 1 ? 10 : 0;
+            make_trace(bytes, digits);
+            archive_check();
+            uint64_t first = answer;
+            rule_c_check();
+            if (first != answer || answer % 256 != 0)
+                fail("the archive's check and the one in C differ");
+            measure(list, 3);
+            if (digits == 0)
+                printf("| none |");
+            else
+                printf("| %zu |", digits);
+            printf(" %zu | %zu | %d |", bytes, records, (int)(answer / 65536 % 65536));
+            print_times(list, 3, 1);
+            printf(" %.2f |", list[2].ratio);
+            print_end(list, 3, before);
+            before = list[0].best;
+        }
+    }
+}
+
+/* Listings */
+
+static char trace_path[4096], text_path[2][4096];
+static char *list_program, *lister_program, *empty_program;
+
+/* Runs a program on the trace, its output going to a file. */
+static void run(char *program, const char *out)
+{
+    extern char **environ;
+    char *words[] = {program, NULL};
+    posix_spawn_file_actions_t files;
+    pid_t child;
+    int status;
+    posix_spawn_file_actions_init(&files);
+    posix_spawn_file_actions_addopen(&files, 0, trace_path, O_RDONLY, 0);
+    posix_spawn_file_actions_addopen(&files, 1, out, O_WRONLY | O_CREAT | O_TRUNC, 0600);
+    if (posix_spawn(&child, program, &files, NULL, words, environ) != 0 || waitpid(child, &status, 0) != child || status != 0)
+        fail(program);
+    posix_spawn_file_actions_destroy(&files);
+}
+
+static void run_list(void)
+{
+    run(list_program, "/dev/null");
+}
+
+static void run_lister(void)
+{
+    run(lister_program, "/dev/null");
+}
+
+static void run_empty(void)
+{
+    run(empty_program, "/dev/null");
+}
+
+static void write_trace(void)
+{
+    FILE *file = fopen(trace_path, "wb");
+    if (file == NULL || fwrite(trace, 1, trace_bytes, file) != trace_bytes || fclose(file) != 0)
+        fail(trace_path);
+}
+
+/* Both programs print the same text; answers its bytes. */
+static size_t same_text(void)
+{
+    run(list_program, text_path[0]);
+    run(lister_program, text_path[1]);
+    FILE *one = fopen(text_path[0], "rb"), *two = fopen(text_path[1], "rb");
+    if (one == NULL || two == NULL)
+        fail("no listing");
+    size_t bytes = 0;
+    for (int x = getc(one), y = getc(two); x != EOF || y != EOF; x = getc(one), y = getc(two), bytes++)
+        if (x != y)
+            fail("the listing program and the one in C differ");
+    fclose(one);
+    fclose(two);
+    return bytes;
+}
+
+static void time_listings(void)
+{
+    printf("\nList, the whole program as a process, us per run (best / median); growth of list's best per doubled length:\n");
+    print_head(" blocks of P | bytes | blocks | printed bytes | list | C | empty process | list/C | (list - empty)/(C - empty) |"
+               " A/A | spread | growth |");
+    for (size_t digits = 1; digits <= 10; digits += digits == 1 ? 4 : 5) {
+        double before = 0;
+        for (size_t bytes = 4096; bytes <= LONGEST; bytes *= 2) {
+            struct contender list[4] = {{.call = run_list}, {.call = run_list}, {.call = run_lister}, {.call = run_empty}};
+            make_trace(bytes, digits);
+            write_trace();
+            size_t printed = same_text();
+            measure(list, 4);
+            printf("| %zu | %zu | %d | %zu |", digits, bytes, (int)(rule_check(trace, trace_bytes) / 65536 % 65536), printed);
+            print_times(list, 4, 1000);
+            printf(" %.2f | %.2f |", list[2].ratio, (list[0].best - list[3].best) / (list[2].best - list[3].best));
+            print_end(list, 4, before);
+            before = list[0].best;
+        }
+    }
+}
+
+int main(int count, char **words)
+{
+    if (count != 5)
+        fail("usage: bench FOLDER LIST LISTER EMPTY");
+    snprintf(trace_path, sizeof trace_path, "%s/trace", words[1]);
+    snprintf(text_path[0], sizeof text_path[0], "%s/text_0", words[1]);
+    snprintf(text_path[1], sizeof text_path[1], "%s/text_1", words[1]);
+    list_program = words[2];
+    lister_program = words[3];
+    empty_program = words[4];
+    rule_tables();
+    time_blocks();
+    time_power();
+    time_checks();
+    time_listings();
+    printf("\nA/A, the same contender timed twice, was from %.2f to %.2f in this run.\n", lowest, highest);
+    return 0;
+}

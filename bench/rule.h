@@ -1,0 +1,28 @@
+/*
+ * The level rule and the trace check in C, written from the project's papers and not from the engine, which is measured
+ * against them. Answers are packed as in hartley.h, so that both can be compared.
+ */
+#ifndef RULE_H
+#define RULE_H
+
+#include <stddef.h>
+#include <stdint.h>
+
+enum { LARGEST = 1024, LONGEST = 65536 };
+enum { HEAD = 1, BLOCK, NOTE, END };
+
+/* Fills the tables; called once, before all else. */
+void rule_tables(void);
+
+/* Forward and backward replace the n cells; power fills the n / 2 + 1 lines of the powers. */
+uint64_t rule_forward(int64_t *cells, size_t n);
+uint64_t rule_backward(int64_t *cells, size_t n);
+uint64_t rule_power(const int64_t *spectrum, size_t n, int64_t *powers, size_t lines);
+
+uint64_t rule_check(const uint8_t *trace, size_t bytes);
+
+/* An unsigned number of 2 and of 4 bytes, least byte first. */
+uint32_t rule_two(const uint8_t *at);
+uint32_t rule_four(const uint8_t *at);
+
+#endif
