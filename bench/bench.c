@@ -134,7 +134,7 @@ static void print_end(const struct contender *list, int count, double before)
 
 /* Blocks */
 
-static size_t n, p;
+static size_t n;
 static uint8_t fresh_bytes[CELL * LARGEST], warm_bytes[CELL * LARGEST];
 static int64_t fresh_cells[LARGEST], warm_cells[LARGEST];
 static double fresh_reals[LARGEST], *warm_reals;
@@ -258,7 +258,7 @@ static void time_direction(int forward)
 {
     static const double E[] = {0, 0, 0, 5, 22, 72, 213, 598, 1624, 4317, 11306};    /* the papers' bound, for P from 0 */
     double before = 0;
-    for (p = 1; p <= 10; p++) {
+    for (size_t p = 1; p <= 10; p++) {
         struct contender list[4] = {
             {.call = forward ? archive_forward : archive_backward},
             {.call = forward ? archive_forward : archive_backward},
@@ -277,7 +277,7 @@ static void time_direction(int forward)
         for (int i = 0; i < 4; i++)
             list[i].call();
         expect_same(warm_bytes, warm_cells, n);
-        expect_near(forward ? E[p] + 0.01 : 25);
+        expect_near(forward ? E[p] + 0.01 : 25);    /* backward has no bound in the papers; 25 is far above what is seen */
 
         measure(list, 3 + FFTW);
         printf("| %zu | %zu |", p, n);

@@ -1,6 +1,6 @@
 /*
- * How a host in C uses the spectrum engine and the trace check: each entry is called, and what comes back is shown and
- * compared with what is promised. Ends with "demo: ok", or with what went wrong and exit status 1.
+ * How a host in C uses the spectrum engine and the trace check: each entry is called; its answer, and the cells of the
+ * blocks worked by hand, are shown and compared. Ends with "demo: ok", or with what went wrong and exit status 1.
  */
 #include "hartley.h"
 
@@ -45,6 +45,7 @@ static const struct bound {
     {"power, 3 cells into none", POWER, 3 * CELL, 0, 0, 1, HARTLEY_LENGTH},
     {"power, 4 cells and a byte", POWER, 4 * CELL + 1, 3 * CELL, 0, 1, HARTLEY_LENGTH},
     {"power, 4 cells into 2", POWER, 4 * CELL, 2 * CELL, 0, LOUDEST + 1, HARTLEY_MISFIT},
+    {"power, 4 cells into 4", POWER, 4 * CELL, 4 * CELL, 0, 1, HARTLEY_MISFIT},
     {"power, 4 cells into 3 and a byte", POWER, 4 * CELL, 3 * CELL + 1, 0, 1, HARTLEY_MISFIT},
     {"power, cell 2 is -2^28 - 1", POWER, 4 * CELL, 3 * CELL, 2, -LOUDEST - 1, HARTLEY_LOUD},
     {"power, cell 2 is 2^28", POWER, 4 * CELL, 3 * CELL, 2, LOUDEST, 0},

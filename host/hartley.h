@@ -1,14 +1,15 @@
 /*
- * The spectrum engine and the trace check of the crispness bench, for hosts in C.
+ * The spectrum engine and the trace check of the crispness bench, for hosts in C on x86-64. Link with libhost.a.
  *
- * Link with libhost.a. Every call ends, whatever bytes it is given, and tests them itself. It keeps nothing between calls
- * and reads and writes only the bytes that it is lent.
+ * Every call ends, whatever bytes it is given, and tests them itself. It keeps nothing between calls, and reads and writes
+ * only the bytes that it is lent. Where it refuses, every lent byte is as it was.
  *
- * A cell is eight bytes, two's complement, least byte first. Byte counts are counts of bytes, not of cells. A pointer is
- * never null, not even with a count of 0. A call's lists do not overlap.
+ * A cell is eight bytes, two's complement, least byte first, at any address. Every count is one of bytes, not of cells.
+ * The host owes three things: no pointer is null, not even with a count of 0; as many bytes are lent as the count says;
+ * and the two lists of hartley_power do not overlap.
  *
- * Each answer is one number. Its first byte, the least, is the number of the refusal, or 0 where nothing is refused; read
- * it with hartley_number. Where a call refuses, every lent byte is as it was.
+ * Each answer is one number. Its least byte is the number of the refusal, or 0 where nothing is refused; hartley_number
+ * reads it.
  */
 #ifndef HARTLEY_H
 #define HARTLEY_H
@@ -22,11 +23,13 @@ extern "C" {
 
 /*
  * Refused input. Block calls test 1, 2 and 3 in turn. A trace is tested for 10; then each record for 11 (six bytes), 12,
- * 13, 14, 11 (payload), 15; the first fault found decides. A byte after the end is looked for last.
+ * 13, 14, 11 (payload), 15; the first fault found decides. A byte after the end is looked for last, once the end's own
+ * length has passed 14. The refusals 4 (line) and 16 (absent) are given by no call here.
  */
 enum hartley_refusal {
-    HARTLEY_LENGTH = 1,  /* block is not 2 to 1,024 cells and a power of two, or not whole cells; place 0 */
-    HARTLEY_MISFIT = 2,  /* a lent output not N/2 + 1 cells, or not whole cells; place 0 */
+    HARTLEY_LENGTH = 1,  /* block is not 2 to 1,024 cells and a power of two, or its count of bytes is no multiple of
+                            eight; place 0 */
+    HARTLEY_MISFIT = 2,  /* a lent output not N/2 + 1 cells, or its count of bytes is no multiple of eight; place 0 */
     HARTLEY_LOUD = 3,    /* forward: a cell outside -32,768 to 32,767; backward and power: outside +-2^28;
                             place the first such cell */
     HARTLEY_LONG = 10,   /* trace above 65,536 bytes; place 0 */

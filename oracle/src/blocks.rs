@@ -101,9 +101,7 @@ fn rounded(x: i64) -> i64 {
 /// "The direct sum of demand 3" for each line v of an accepted block, at scale 2^60.
 pub fn direct(samples: &[i64]) -> Vec<i128> {
     let cas: Vec<i128> = (0..TURN).map(fine_cas).collect();
-    (0..samples.len())
-        .map(|v| direct_line(samples, v, &cas))
-        .collect()
+    (0..samples.len()).map(|v| direct_line(samples, v, &cas)).collect()
 }
 
 /// "the sum over t from 0 to N - 1 of sample(t) × cas(v × t × 1,024 / N mod 1,024), with fine cas"

@@ -6,7 +6,7 @@ use crate::refusal::{refuse_if, Refusal, LENGTH, MISFIT};
 
 /// "a count of bytes that is no multiple of eight is a refusal 1"
 fn cells_of(bytes: &[u8]) -> Result<Vec<i64>, Refusal> {
-    refuse_if(!bytes.len().is_multiple_of(8), LENGTH, 0)?;
+    refuse_if(bytes.len() % 8 != 0, LENGTH, 0)?;
     let mut cells = Vec::new();
     for eight in bytes.chunks(8) {
         let mut cell = [0; 8];
@@ -41,7 +41,7 @@ pub fn backward_bytes(lent: &mut [u8]) -> Result<(), Refusal> {
 pub fn power_bytes(spectrum: &[u8], lent: &mut [u8]) -> Result<(), Refusal> {
     let cells = cells_of(spectrum)?;
     test_length(cells.len())?;
-    refuse_if(!lent.len().is_multiple_of(8), MISFIT, 0)?;
+    refuse_if(lent.len() % 8 != 0, MISFIT, 0)?;
     let doubled = power(&cells, lent.len() / 8)?;
     replace(lent, &doubled);
     Ok(())

@@ -28,11 +28,7 @@ fn half_angle(j: i64) -> i128 {
     if j == QUARTER {
         return 0;
     }
-    let g = if 2 * j <= QUARTER {
-        half_angle(2 * j)
-    } else {
-        -half_angle(HALF - 2 * j)
-    };
+    let g = if 2 * j <= QUARTER { half_angle(2 * j) } else { -half_angle(HALF - 2 * j) };
     whole_root(((1 << 60) + g) * (1 << 59))
 }
 

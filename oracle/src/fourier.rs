@@ -15,11 +15,7 @@ fn mirrored(spectrum: &[i64], v: usize) -> (i64, i64) {
 }
 
 /// "doubled real part H(v) + H(N-v); doubled imaginary part H(N-v) - H(v)"
-pub fn parts(
-    spectrum: &[i64],
-    real: usize,
-    imaginary: usize,
-) -> Result<(Vec<i64>, Vec<i64>), Refusal> {
+pub fn parts(spectrum: &[i64], real: usize, imaginary: usize) -> Result<(Vec<i64>, Vec<i64>), Refusal> {
     test_length(spectrum.len())?;
     test_lent(spectrum, real)?;
     test_lent(spectrum, imaginary)?;

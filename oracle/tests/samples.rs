@@ -5,8 +5,8 @@ use std::io::Write;
 use std::process::{Command, Stdio};
 
 const SAMPLE_TRACE: [u8; 32] = [
-    0x06, 0x00, 0x00, 0x00, 0x01, 0x00, 0x40, 0x1F, 0x00, 0x00, 0x02, 0x00, 0x08, 0x00, 0x00, 0x00,
-    0x02, 0x00, 0x01, 0x00, 0x02, 0x00, 0x03, 0x00, 0x04, 0x00, 0x00, 0x00, 0x00, 0x00, 0x04, 0x00,
+    0x06, 0x00, 0x00, 0x00, 0x01, 0x00, 0x40, 0x1F, 0x00, 0x00, 0x02, 0x00, 0x08, 0x00, 0x00, 0x00, 0x02, 0x00, 0x01,
+    0x00, 0x02, 0x00, 0x03, 0x00, 0x04, 0x00, 0x00, 0x00, 0x00, 0x00, 0x04, 0x00,
 ];
 const SAMPLE_LISTING: &str = "trace 8000 4 1\n0 0 20 0 200\n0 1 -4 4 16\n0 2 -4 0 8\nend\n";
 
@@ -221,19 +221,10 @@ fn refused_traces() {
     assert_eq!(contents(&after_head(&record(1, &[]))), refused(13, 12));
     assert_eq!(contents(&after_head(&record(2, &[0; 4]))), refused(14, 12));
     assert_eq!(contents(&after_head(&record(2, &[0; 10]))), refused(14, 12));
-    assert_eq!(
-        contents(&after_head(&record(2, &[0; 8])[0..13])),
-        refused(11, 12)
-    );
-    assert_eq!(
-        contents(&after_head(&record(3, &[0; 256]))),
-        refused(14, 12)
-    );
+    assert_eq!(contents(&after_head(&record(2, &[0; 8])[0..13])), refused(11, 12));
+    assert_eq!(contents(&after_head(&record(3, &[0; 256]))), refused(14, 12));
     assert_eq!(contents(&after_head(&record(4, &[0]))), refused(14, 12));
-    assert_eq!(
-        contents(&after_head(&[end, vec![9; 7]].concat())),
-        refused(13, 18)
-    );
+    assert_eq!(contents(&after_head(&[end, vec![9; 7]].concat())), refused(13, 18));
 }
 
 #[test]
@@ -256,11 +247,8 @@ fn listings() {
 
 #[test]
 fn listing_program() {
-    let mut program = Command::new(env!("CARGO_BIN_EXE_oracle"))
-        .stdin(Stdio::piped())
-        .stdout(Stdio::piped())
-        .spawn()
-        .unwrap();
+    let mut program =
+        Command::new(env!("CARGO_BIN_EXE_oracle")).stdin(Stdio::piped()).stdout(Stdio::piped()).spawn().unwrap();
     let mut input = program.stdin.take().unwrap();
     input.write_all(&SAMPLE_TRACE).unwrap();
     drop(input);

@@ -1,5 +1,5 @@
 -- What the tests tell where they refuse: a length that no block has is refusal 1 whatever else is lent, outputs matter only by whether they fit, and a
--- place is a cell of the largest block.
+-- place is at most 1,024.
 -- Example: `refused-place low high outputs xs refusal e : place refusal ≤ LARGEST`, with e : tested low high outputs xs ≡ Refused refusal.
 use mathlib.Core.Path.{_≡_, refl, subst}
 use mathlib.Core.Bool.{Bool, true, false}
@@ -72,8 +72,8 @@ module _ (low high : ℤ) (outputs : List ℕ) (xs : List ℤ) where
       loud = firstLoud low high xs
 
       go : (k : KindAnswer) → kindOf (length xs) ≡ k → Placed (refusedIf (ltb loud (length xs)) (Loud loud) (refusedIf (misfit (length xs / 2 + 1) outputs) Misfit k))
-      go (Taken kind) e = let fits = misfit (length xs / 2 + 1) outputs in
-          placed-if (ltb loud (length xs)) (Loud loud) (refusedIf fits Misfit (Taken kind)) (placed-if fits Misfit (Taken kind) tt (λ t. omega arith))
+      go (Taken kind) e = let unfit = misfit (length xs / 2 + 1) outputs in
+          placed-if (ltb loud (length xs)) (Loud loud) (refusedIf unfit Misfit (Taken kind)) (placed-if unfit Misfit (Taken kind) tt (λ t. omega arith))
           (λ t. omega (arith, ltb-true loud (length xs) t, kind-largest (kind-length (length xs) (kind .p) e)))
       go (Refused refusal) e = subst Placed e (placed-kind (length xs))
 

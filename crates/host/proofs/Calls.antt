@@ -28,6 +28,13 @@ use Rattle.host.specs.Workers.{Answered, Packable, cellCount, leftBy}
 use Rattle.host.proofs.Packing.{block-unpacked}
 use Rattle.host.proofs.Counts.{read-tested, read-taken, output-tested, output-taken}
 
+-- the limits of a spectrum
+abbrev pub LEAST-LINE : ℤ
+LEAST-LINE = negℤ (pos LOUDEST-LINE)
+
+abbrev pub LARGEST-LINE : ℤ
+LARGEST-LINE = pos LOUDEST-LINE
+
 -- ---- what an answer says of the tests
 
 pub taken : (k : KindAnswer) → Done ≡ answerTo k → (kind : BlockKind) × (k ≡ Taken kind)
@@ -43,7 +50,7 @@ tests-packable low high outputs xs e = rw e (packable (tested low high outputs x
 
 -- ---- tests, which are those of the cells that were read; r is what the call on them answers, and zs are the cells that it leaves
 
-pub answered-so : (tests read : KindAnswer) (result : ℕ → List ℤ) (before after : List ℕ) (answer : ℕ) (r : Answer) (zs : List ℤ) → read ≡ tests → r ≡ answerTo read → answer ≡ packed r
+answered-so : (tests read : KindAnswer) (result : ℕ → List ℤ) (before after : List ℕ) (answer : ℕ) (r : Answer) (zs : List ℤ) → read ≡ tests → r ≡ answerTo read → answer ≡ packed r
     → after ≡ leftBy r zs before → ((kind : BlockKind) → read ≡ Taken kind → zs ≡ result (kind .p)) → Answered tests result before after answer
 answered-so tests read result before after answer r zs same s a l h = subst (λ (k : KindAnswer). Answered k result before after answer) same (go read refl)
   where
@@ -57,7 +64,7 @@ told-so {tests} a = ap blockNumbers (a .says) ∙ block-unpacked tests
 
 -- ---- a call that leaves its result in the cells that were read
 
-module _ (low high : ℤ) (result : ℕ → List ℤ → List ℤ) (bytes : List ℕ) (n : ℕ) (e : n ≡ cellCount LARGEST (length bytes)) where
+module _ (low high : ℤ) (result : ℕ → List ℤ → List ℤ) (bytes : List ℕ) (n : ℕ) (e : n ≡ cellCount (CELL * LARGEST) (length bytes)) where
   -- ys are the cells that the call was given
   module _ {r : Answer} (ys : List ℤ) (is : ys ≡ signeds CELL n bytes) (s : r ≡ answerTo (tested low high [] ys)) where
     all-read : (kind : BlockKind) → tested low high [] ys ≡ Taken kind → (cellsIn bytes ≡ signeds CELL n bytes) × (length bytes ≡ CELL * n)
@@ -73,30 +80,23 @@ module _ (low high : ℤ) (result : ℕ → List ℤ → List ℤ) (bytes : List
 
 -- ---- the power, which has an output of its own
 
-module _ (spectrum powers : List ℕ) (n : ℕ) (en : n ≡ cellCount LARGEST (length spectrum)) (lent : List ℤ) (em : length lent ≡ cellCount (LARGEST / 2 + 1) (length powers)) where
-  -- the limits of a spectrum
-  abbrev low : ℤ
-  low = negℤ (pos LOUDEST-LINE)
-
-  abbrev high : ℤ
-  high = pos LOUDEST-LINE
-
+module _ (spectrum powers : List ℕ) (n : ℕ) (en : n ≡ cellCount (CELL * LARGEST) (length spectrum)) (lent : List ℤ) (em : length lent ≡ cellCount (CELL * (LARGEST / 2 + 1)) (length powers)) where
   module _ {r : Answer} (ys : List ℤ) (is : ys ≡ signeds CELL n spectrum) (s : r ≡ answerTo (testedPower ys lent)) where
     same-tests : testedPower ys lent ≡ testedPower (cellsIn spectrum) (cellsIn powers)
     unfolding testedPower
-    same-tests = ap (tested low high (length lent ∷ [])) is ∙ read-tested low high (length lent ∷ []) spectrum n en ∙ output-tested low high powers (cellsIn spectrum) (length lent) em
+    same-tests = ap (tested LEAST-LINE LARGEST-LINE (length lent ∷ [])) is ∙ read-tested LEAST-LINE LARGEST-LINE (length lent ∷ []) spectrum n en ∙ output-tested LEAST-LINE LARGEST-LINE powers (cellsIn spectrum) (length lent) em
 
     pub power-packable : Packable r
     unfolding testedPower
-    power-packable = tests-packable low high (length lent ∷ []) ys s
+    power-packable = tests-packable LEAST-LINE LARGEST-LINE (length lent ∷ []) ys s
 
     pub power-room : r ≡ Done → length powers ≡ CELL * length lent
     unfolding testedPower
-    power-room d = let t = taken (testedPower ys lent) (sym d ∙ s) in output-taken low high powers ys (length lent) em (t .0) (t .1)
+    power-room d = let t = taken (testedPower ys lent) (sym d ∙ s) in output-taken LEAST-LINE LARGEST-LINE powers ys (length lent) em (t .0) (t .1)
 
     all-cells : (kind : BlockKind) → testedPower ys lent ≡ Taken kind → ys ≡ cellsIn spectrum
     unfolding testedPower
-    all-cells kind t = is ∙ sym (read-taken low high (length lent ∷ []) spectrum n en kind (ap (tested low high (length lent ∷ [])) (sym is) ∙ t) .0)
+    all-cells kind t = is ∙ sym (read-taken LEAST-LINE LARGEST-LINE (length lent ∷ []) spectrum n en kind (ap (tested LEAST-LINE LARGEST-LINE (length lent ∷ [])) (sym is) ∙ t) .0)
 
     pub answered-power : (zs : List ℤ) (after : List ℕ) (answer : ℕ) → zs ≡ powersLeft ys lent → answer ≡ packed r → after ≡ leftBy r zs powers
         → Answered (testedPower (cellsIn spectrum) (cellsIn powers)) (λ _. doubledLines Power (cellsIn spectrum)) powers after answer

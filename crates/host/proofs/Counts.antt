@@ -1,16 +1,17 @@
 -- The cells that are read from bytes, and why the engine's own tests then refuse just what a host must be refused: where a byte is left over, or there are
 -- more cells than any call takes, no cell is read.
 -- Example: `read-tested low high outputs bytes n e : tested low high outputs (signeds CELL n bytes) ≡ tested low high outputs (cellsIn bytes)`, with
--- e : n ≡ cellCount LARGEST (length bytes).
+-- e : n ≡ cellCount (CELL * LARGEST) (length bytes).
 use mathlib.Core.Path.{_≡_, refl, sym, _∙_, ap}
 use mathlib.Core.Bool.{Bool, true, false, cond, _&&_}
 use mathlib.Core.List.{List, [], _∷_}
-use Prim.Native.Nat.{ℕ, _+_, _*_, _/_, _%_, _^_, _≤_, _<_}
+use Prim.Native.Nat.{ℕ, _+_, _-_, _*_, _/_, _%_, _^_, _≤_, _<_}
 use native.Mathlib.Omega.{arith}
 use borrow.Author.Tests.{eq-eqb, ne-eqb, eqb-true, eqb-false, leb-false}
 use lib.Dec.{eqb, leb}
 use lib.IntN.{ℤ, pos}
-use lib.ListN.{length, getD}
+use lib.ListN.{length, getD, take, drop}
+use Rattle.ints.proofs.Parts.{length-part}
 use Rattle.refusal.specs.declared.BlockKind.{BlockKind}
 use Rattle.refusal.specs.declared.KindAnswer.the-variants.{Taken, Refused}
 use Rattle.refusal.specs.declared.Refusal.the-variants.{Length, Misfit}
@@ -40,15 +41,15 @@ no-cells : (bytes : List ℕ) → (length bytes % CELL ≡ 0 → ⊥) → cellsI
 unfolding cellsIn
 no-cells bytes h = rw (ne-eqb (length bytes % CELL) 0 h) refl
 
-module _ (most : ℕ) (bytes : List ℕ) (n : ℕ) (e : n ≡ cellCount most (length bytes)) where
+module _ (most : ℕ) (bytes : List ℕ) (n : ℕ) (e : n ≡ cellCount (CELL * most) (length bytes)) where
   reads : Reads most bytes n
   unfolding cellCount signeds
-  reads = go (eqb (length bytes % CELL) 0) refl (leb (length bytes / CELL) most) refl e
+  reads = go (eqb (length bytes % CELL) 0) refl (leb (length bytes) (CELL * most)) refl e
     where
-      go : (t : Bool) → eqb (length bytes % CELL) 0 ≡ t → (u : Bool) → leb (length bytes / CELL) most ≡ u → n ≡ cond (t && u) (length bytes / CELL) 0 → Reads most bytes n
+      go : (t : Bool) → eqb (length bytes % CELL) 0 ≡ t → (u : Bool) → leb (length bytes) (CELL * most) ≡ u → n ≡ cond (t && u) (length bytes / CELL) 0 → Reads most bytes n
       go true et true eu en = let z = eqb-true (length bytes % CELL) 0 et in same (rw en (whole-cells bytes z)) (omega arith) (λ h. omega arith)
       go true et false eu en = let z = eqb-true (length bytes % CELL) 0 et in
-          too-many en (rw (whole-cells bytes z, length-signeds CELL (length bytes / CELL) bytes) (leb-false (length bytes / CELL) most eu))
+          too-many en (rw (whole-cells bytes z, length-signeds CELL (length bytes / CELL) bytes) (omega (arith, leb-false (length bytes) (CELL * most) eu)))
       go false et u eu en = same (no-cells bytes (eqb-false (length bytes % CELL) 0 et) ∙ rw en refl) (omega arith) (λ h. omega arith)
 
   pub count-room : CELL * n ≤ length bytes
@@ -57,6 +58,14 @@ module _ (most : ℕ) (bytes : List ℕ) (n : ℕ) (e : n ≡ cellCount most (le
       go : Reads most bytes n → CELL * n ≤ length bytes
       go (same k room whole) = room
       go (too-many z k) = omega arith
+
+-- ---- the bytes of a cell, from `start` to `end`
+
+pub eight : (bytes : List ℕ) (start end : ℕ) → end ≡ start + CELL → end ≤ length bytes → length (take (end - start) (drop start bytes)) ≡ CELL
+eight bytes start end e h = length-part 0 start (end - start) bytes (omega arith) ∙ many
+  where
+    many : end - start ≡ CELL
+    many = omega arith
 
 -- ---- a block, or a spectrum
 
@@ -71,7 +80,7 @@ module _ (low high : ℤ) (outputs : List ℕ) (bytes : List ℕ) where
   pub left-over-block : (length bytes % CELL ≡ 0 → ⊥) → tested low high outputs (cellsIn bytes) ≡ Refused Length
   left-over-block h = tested-length low high outputs (cellsIn bytes) (no-block (ap length (no-cells bytes h)))
 
-  module _ (n : ℕ) (e : n ≡ cellCount LARGEST (length bytes)) where
+  module _ (n : ℕ) (e : n ≡ cellCount (CELL * LARGEST) (length bytes)) where
     -- the tests of the cells that are read say what those of the cells that the bytes spell would
     pub read-tested : tested low high outputs (signeds CELL n bytes) ≡ tested low high outputs (cellsIn bytes)
     read-tested = go (reads LARGEST bytes n e)
@@ -104,7 +113,7 @@ module _ (low high : ℤ) (bytes : List ℕ) (xs : List ℤ) where
   unfolding tested
   left-over-output h P k = rw (misfits (length (cellsIn bytes)) (length xs / 2 + 1) (λ e. omega (arith, ap length (no-cells bytes h))), kind-given (length xs) P k) refl
 
-  module _ (n : ℕ) (e : n ≡ cellCount (LARGEST / 2 + 1) (length bytes)) where
+  module _ (n : ℕ) (e : n ≡ cellCount (CELL * (LARGEST / 2 + 1)) (length bytes)) where
     pub output-tested : tested low high (n ∷ []) xs ≡ tested low high (length (cellsIn bytes) ∷ []) xs
     output-tested = go (reads (LARGEST / 2 + 1) bytes n e)
       where

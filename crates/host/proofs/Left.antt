@@ -1,6 +1,6 @@
 -- What forward leaves in the bytes: they spell its spectrum, so demand 3 and the law of line 0 hold of the cells in them.
 -- Example: `near a z : (P : ℕ) × (length (cellsIn before) ≡ 2 ^ P) × WithinE P (cellsIn before) (cellsIn after)`, with z : the answer is 0.
-use mathlib.Core.Path.{_≡_, refl, sym, _∙_, ap}
+use mathlib.Core.Path.{_≡_, sym, _∙_, ap}
 use mathlib.Core.List.{List, []}
 use Prim.Native.Nat.{ℕ, _^_, _≤_}
 use native.Mathlib.Omega.{arith}
@@ -8,8 +8,7 @@ use lib.IntN.{ℤ, pos, negsuc, natAbs}
 use lib.ListN.{length}
 use Rattle.ints.specs.Sum.{sum}
 use Rattle.refusal.specs.declared.BlockKind.{BlockKind}
-use Rattle.refusal.specs.declared.KindAnswer.{KindAnswer}
-use Rattle.refusal.specs.declared.KindAnswer.the-variants.{Taken, Refused}
+use Rattle.refusal.specs.declared.KindAnswer.the-variants.{Taken}
 use Rattle.block.specs.Cells.{cell, LOUDEST-LINE}
 use Rattle.block.specs.Tests.{testedSamples}
 use Rattle.block.specs.Answers.{answerTo}
@@ -20,16 +19,10 @@ use Rattle.spectrum.specs.Distance.{WithinE}
 use Rattle.spectrum.proofs.Demand3.{demand-3, forward-first}
 use Rattle.spectrum.proofs.Loudness.{forward-taken}
 use Rattle.host.specs.CellBytes.{CELL, bytesLeft, cellsIn}
-use Rattle.host.specs.Packing.{packed, packedRefusal}
 use Rattle.host.specs.Workers.{Answered}
-use Rattle.host.proofs.Packing.{number-fits}
+use Rattle.host.proofs.Packing.{nothing-refused}
 use Rattle.host.proofs.Counts.{cells-back}
-
--- an answer of 0 refuses nothing
-nothing-refused : (k : KindAnswer) → packed (answerTo k) ≡ 0 → (kind : BlockKind) × (k ≡ Taken kind)
-unfolding packedRefusal
-nothing-refused (Taken kind) e = (kind, refl)
-nothing-refused (Refused refusal) e = absurd (omega (arith, number-fits refusal .0))
+use Rattle.host.proofs.Calls.{taken}
 
 -- eight bytes hold every line of a spectrum
 quiet-within : (z : ℤ) → natAbs z ≤ LOUDEST-LINE → Within (256 ^ CELL) z
@@ -41,7 +34,7 @@ module _ {before after : List ℕ} {answer : ℕ} (a : Answered (testedSamples (
   xs = cellsIn before
 
   abbrev found : (kind : BlockKind) × (testedSamples xs ≡ Taken kind)
-  found = nothing-refused (testedSamples xs) (sym (a .says) ∙ z)
+  found = taken (testedSamples xs) (sym (nothing-refused (answerTo (testedSamples xs)) (sym (a .says) ∙ z)))
 
   abbrev P : ℕ
   P = found .0 .p

@@ -1,5 +1,5 @@
 -- Unpacking an answer gives back what was packed, since each part stays within its bytes.
--- Example: `block-unpacked k h : blockNumbers (packed (answerTo k)) ≡ firstFault k`, with h : the place of a refusal is at most 65,536.
+-- Example: `block-unpacked k : blockNumbers (packed (answerTo k)) ≡ firstFault k`.
 use mathlib.Core.Path.{_≡_, refl}
 use mathlib.Core.Bool.{false}
 use Prim.Native.Nat.{ℕ, _+_, _*_, _/_, _%_, _^_, _≤_, _<_}
@@ -12,6 +12,8 @@ use Rattle.refusal.specs.declared.Refusal.{Refusal}
 use Rattle.refusal.specs.declared.Refusal.the-variants.{Length, Misfit, Loud, Line, Long, Cut, Kind, Order, Size, Head, Absent}
 use Rattle.refusal.specs.RefusalTable.{number, place}
 use Rattle.block.specs.Answers.{answerTo, firstFault}
+use Rattle.block.specs.declared.Answer.{Answer}
+use Rattle.block.specs.declared.Answer.the-variants.{Done, Refused as RefusedBy}
 use Rattle.trace.specs.declared.Head.{Head as TraceHead}
 use Rattle.trace.specs.declared.TraceAnswer.{TraceAnswer}
 use Rattle.trace.specs.declared.TraceAnswer.the-variants.{Accepted, Refused as Unaccepted}
@@ -43,10 +45,15 @@ module _ (refusal : Refusal) where
   place-back = omega (arith, number-fits refusal .1)
 
   -- it is not taken for an answer that refuses nothing
-  pub refused-at-all : eqb (numberIn (packedRefusal refusal)) 0 ≡ false
+  refused-at-all : eqb (numberIn (packedRefusal refusal)) 0 ≡ false
   refused-at-all = rw number-back (ne-eqb (number refusal) 0 (λ e. omega (arith, number-fits refusal .0)))
 
 -- ---- a call on a block
+
+pub nothing-refused : (answer : Answer) → packed answer ≡ 0 → answer ≡ Done
+unfolding packedRefusal
+nothing-refused Done e = refl
+nothing-refused (RefusedBy refusal) e = absurd (omega (arith, number-fits refusal .0))
 
 pub block-unpacked : (k : KindAnswer) → blockNumbers (packed (answerTo k)) ≡ firstFault k
 unfolding blockNumbers

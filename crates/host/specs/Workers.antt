@@ -15,9 +15,9 @@ use Rattle.trace.specs.Contents.{LONGEST}
 use Rattle.host.specs.CellBytes.{CELL, bytesLeft}
 use Rattle.host.specs.Packing.{packed}
 
--- the number of cells that n bytes are read as: 0 where a byte is left over or there are more than `most`, and no call takes 0 cells
+-- the number of cells that n bytes are read as: 0 where a byte is left over or there are more than `most` bytes, and no call takes 0 cells
 unfoldable pub cellCount : ℕ → ℕ → ℕ
-cellCount most n = cond (eqb (n % CELL) 0 && leb (n / CELL) most) (n / CELL) 0
+cellCount most n = cond (eqb (n % CELL) 0 && leb n most) (n / CELL) 0
 
 -- what a call answers, and the bytes that it leaves, once the tests of the cells have said whether they are taken
 pub record Answered (tests : KindAnswer) (result : ℕ → List ℤ) (before after : List ℕ) (answer : ℕ) : Type 0 where

@@ -32,7 +32,7 @@ ghost use Rattle.host.specs.Workers.{Answered, Packable, cellCount, left
 const CELL: usize = 8;
 
 // The last byte of a cell, which is the most significant one.
-const LAST: usize = 7;
+const LAST: usize = CELL - 1;
 
 // The lines of a spectrum, 0 to N/2, at most.
 const LINES: usize = BlockKind::LARGEST / 2 + 1;
@@ -46,7 +46,7 @@ pub extern "C" fn hartley_forward(cells: &mut [u8]) -> u64
     ensures distance { λ r. ⌜ (r ≡ 0 → (P : ℕ) × (length (cellsIn (now (cells .entry))) ≡ 2 ^ P) × WithinE P (cellsIn (now (cells .entry))) (cellsIn (now (cells .exit)))) ⌝ }
     ensures first_line { λ r. ⌜ (r ≡ 0 → cell (cellsIn (now (cells .exit))) 0 ≡ sum (length (cellsIn (now (cells .entry)))) (cell (cellsIn (now (cells .entry))))) ⌝ }
 {
-    let len = cell_count(cells.len(), BlockKind::LARGEST);
+    let len = cell_count(cells.len(), CELL * BlockKind::LARGEST);
     let mut block = [0i64; BlockKind::LARGEST];
     forward_in(cells, &mut block[..len])
 }
@@ -58,7 +58,7 @@ pub extern "C" fn hartley_backward(cells: &mut [u8]) -> u64
     ensures numbers { λ r. ⌜ blockNumbers r ≡ firstFault (testedSpectrum [] (cellsIn (now (cells .entry)))) ⌝ }
     ensures bytes { λ _. ⌜ now (cells .exit) ≡ bytesLeft (λ P. backward P (cellsIn (now (cells .entry)))) (now (cells .entry)) (testedSpectrum [] (cellsIn (now (cells .entry)))) ⌝ }
 {
-    let len = cell_count(cells.len(), BlockKind::LARGEST);
+    let len = cell_count(cells.len(), CELL * BlockKind::LARGEST);
     let mut block = [0i64; BlockKind::LARGEST];
     backward_in(cells, &mut block[..len])
 }
@@ -70,8 +70,8 @@ pub extern "C" fn hartley_power(spectrum: &[u8], powers: &mut [u8]) -> u64
     ensures numbers { λ r. ⌜ blockNumbers r ≡ firstFault (testedPower (cellsIn (now (spectrum .entry))) (cellsIn (now (powers .entry)))) ⌝ }
     ensures bytes { λ _. ⌜ now (powers .exit) ≡ bytesLeft (λ _. doubledLines Power (cellsIn (now (spectrum .entry)))) (now (powers .entry)) (testedPower (cellsIn (now (spectrum .entry))) (cellsIn (now (powers .entry)))) ⌝ }
 {
-    let lines = cell_count(powers.len(), LINES);
-    let len = cell_count(spectrum.len(), BlockKind::LARGEST);
+    let lines = cell_count(powers.len(), CELL * LINES);
+    let len = cell_count(spectrum.len(), CELL * BlockKind::LARGEST);
     let mut cells = [0i64; BlockKind::LARGEST];
     let mut values = [0i64; LINES];
     power_in(spectrum, powers, &mut cells[..len], &mut values[..lines])
@@ -131,7 +131,7 @@ pub extern "C" fn hartley_blocks(answer: u64) -> u64
 
 // Forward, with room for the cells that are read.
 fn forward_in(bytes: &mut [u8], cells: &mut [i64]) -> u64
-    requires { ⌜ length (now cells) ≡ cellCount LARGEST (length (now bytes)) ⌝ }
+    requires { ⌜ length (now cells) ≡ cellCount (CELL * LARGEST) (length (now bytes)) ⌝ }
     ensures { λ r. ⌜ Answered (testedSamples (cellsIn (now (bytes .entry)))) (λ P. forward P (cellsIn (now (bytes .entry)))) (now (bytes .entry)) (now (bytes .exit)) r ⌝ }
 {
     decode(bytes, cells);
@@ -140,7 +140,7 @@ fn forward_in(bytes: &mut [u8], cells: &mut [i64]) -> u64
 
 // Backward, with room for the cells that are read.
 fn backward_in(bytes: &mut [u8], cells: &mut [i64]) -> u64
-    requires { ⌜ length (now cells) ≡ cellCount LARGEST (length (now bytes)) ⌝ }
+    requires { ⌜ length (now cells) ≡ cellCount (CELL * LARGEST) (length (now bytes)) ⌝ }
     ensures { λ r. ⌜ Answered (testedSpectrum [] (cellsIn (now (bytes .entry)))) (λ P. backward P (cellsIn (now (bytes .entry)))) (now (bytes .entry)) (now (bytes .exit)) r ⌝ }
 {
     decode(bytes, cells);
@@ -148,12 +148,12 @@ fn backward_in(bytes: &mut [u8], cells: &mut [i64]) -> u64
 }
 
 // Power, with room for the cells that are read and for those of the output.
-fn power_in(spectrum: &[u8], powers: &mut [u8], cells: &mut [i64], lines: &mut [i64]) -> u64
-    requires { ⌜ (length (now cells) ≡ cellCount LARGEST (length (now spectrum))) × (length (now lines) ≡ cellCount (LARGEST / 2 + 1) (length (now powers))) ⌝ }
+fn power_in(spectrum: &[u8], powers: &mut [u8], cells: &mut [i64], values: &mut [i64]) -> u64
+    requires { ⌜ (length (now cells) ≡ cellCount (CELL * LARGEST) (length (now spectrum))) × (length (now values) ≡ cellCount (CELL * (LARGEST / 2 + 1)) (length (now powers))) ⌝ }
     ensures { λ r. ⌜ Answered (testedPower (cellsIn (now (spectrum .entry))) (cellsIn (now (powers .entry)))) (λ _. doubledLines Power (cellsIn (now (spectrum .entry)))) (now (powers .entry)) (now (powers .exit)) r ⌝ }
 {
     decode(spectrum, cells);
-    answered(fourier::power(cells, lines), lines, powers)
+    answered(fourier::power(cells, values), values, powers)
 }
 
 // A call's answer as a plain number; where nothing is refused, its cells are written as bytes.
@@ -170,12 +170,12 @@ fn answered(answer: Answer, cells: &[i64], bytes: &mut [u8]) -> u64
 
 // The number of cells that so many bytes are read as: 0, which no call takes, where a byte is left over or there are more than the most.
 fn cell_count(bytes: usize, most: usize) -> usize
-    ensures { λ r. ⌜ (r ≡ cellCount most bytes) × (r ≤ most) ⌝ }
+    ensures { λ r. ⌜ (r ≡ cellCount most bytes) × (CELL * r ≤ most) ⌝ }
 {
     if bytes % CELL != 0 {
         return 0;
     }
-    if most < bytes / CELL {
+    if most < bytes {
         return 0;
     }
     bytes / CELL
@@ -251,7 +251,9 @@ fn packed_refusal(refusal: Refusal) -> u64
     requires { ⌜ place refusal ≤ LONGEST ⌝ }
     ensures { λ r. ⌜ r ≡ packedRefusal refusal ⌝ }
 {
-    refusal.number() as u64 + 256 * (refusal.place() as u64)
+    let number = refusal.number() as u64;
+    let place = refusal.place() as u64;
+    number + 256 * place
 }
 
 // What an accepted trace holds as a plain number.

@@ -2,6 +2,7 @@
 //! difference.
 
 use crate::archive::{self, Lent};
+use crate::inputs::cells_of;
 use crate::random::Random;
 use crate::tally::{Call, Tally};
 use std::io::Write;
@@ -72,7 +73,11 @@ impl Comparison {
         }
         self.same_lent(&run, "block", &lent, &second_cells);
         self.same_lent(&run, "output", &lent_output, &second_output);
-        self.tally.count(call, sort, number, (cells.len() / 8).max(1).ilog2());
+        let p = (cells.len() / 8).max(1).ilog2();
+        self.tally.count(call, sort, number, p);
+        if call == Call::Forward && number == 0 {
+            self.measure(p as usize, &cells_of(cells), &cells_of(lent.bytes()));
+        }
         let result = if call == Call::Power { lent_output } else { lent };
         (answer, result.bytes().to_vec())
     }
@@ -138,7 +143,7 @@ impl Comparison {
     }
 
     /// Demand 3: each line, times 2^60, is at most E(P) x 2^60 from the direct sum.
-    pub fn measure(&mut self, p: usize, samples: &[i64], lines: &[i64]) {
+    fn measure(&mut self, p: usize, samples: &[i64], lines: &[i64]) {
         let direct = oracle::direct(samples);
         for v in 0..lines.len() {
             let distance = (i128::from(lines[v]) * (1 << 60) - direct[v]).abs();

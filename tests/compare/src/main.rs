@@ -10,7 +10,7 @@ mod traces;
 mod worked;
 
 use compare::Comparison;
-use inputs::{bytes_of, cells_of, make_loud, several_faults, shaped};
+use inputs::{bytes_of, make_loud, several_faults, shaped};
 use inputs::{LENGTHS, LINES, SAMPLES, SHAPES};
 use std::process::exit;
 use tally::Call;
@@ -57,14 +57,13 @@ fn main() {
     println!("\ncomparison: ok, {} inputs", c.tally.inputs);
 }
 
-/// Accepted blocks: forward, measured; backward and power of what it left; the same of spectra.
+/// Accepted blocks: forward; backward and power of what it left; the same of spectra.
 fn blocks(c: &mut Comparison, p: usize) {
     let n = LENGTHS[p - 1];
     for i in 0..BLOCKS[p - 1] {
         let shape = SHAPES[i % SHAPES.len()];
         let samples = shaped(shape, n, SAMPLES, &mut c.random);
         let (_, lines) = c.block(Call::Forward, shape, &bytes_of(&samples), &[]);
-        c.measure(p, &samples, &cells_of(&lines));
         let spectrum = bytes_of(&shaped(shape, n, LINES, &mut c.random));
         for (sort, given) in [("what forward left", lines), ("spectra so shaped", spectrum)] {
             c.block(Call::Backward, sort, &given, &[]);

@@ -48,7 +48,7 @@ impl Tally {
         }
         println!("\n{:>2}{:>9}{:>18}{:>8}", "P", "blocks", "largest distance", "E(P)");
         for p in 1..=10 {
-            let far = self.farthest[p] * 1000 / (1 << 60);
+            let far = (self.farthest[p] * 1000 + (1 << 60) - 1) / (1 << 60); // rounded up
             let far = format!("{}.{:03}", far / 1000, far % 1000);
             println!("{p:>2}{:>9}{far:>18}{:>8}", self.measured[p], oracle::E[p - 1]);
         }

@@ -10,21 +10,16 @@ use Rattle.bytes.specs.Spelling.{spelledSigneds}
 use Rattle.block.specs.declared.Answer.{Answer}
 use Rattle.block.specs.declared.Answer.the-variants.{Done, Refused}
 use Rattle.host.specs.CellBytes.{CELL}
-use Rattle.host.specs.Packing.{packed, packedRefusal}
+use Rattle.host.specs.Packing.{packed}
 use Rattle.host.specs.Workers.{leftBy}
-use Rattle.host.proofs.Packing.{number-fits}
+use Rattle.host.proofs.Packing.{nothing-refused}
 use Rattle.host.proofs.answered.Statement.{statement}
 use Rattle.host.proofs.answered.Tie as tie
 
 -- n is the number of the answer
 module _ (answer : Answer) (cells : List ℤ) (bytes after : List ℕ) (n : ℕ) (e : n ≡ packed answer) where
   done : n ≡ 0 → answer ≡ Done
-  unfolding packedRefusal
-  done z = go answer e
-    where
-      go : (answer : Answer) → n ≡ packed answer → answer ≡ Done
-      go Done e = refl
-      go (Refused refusal) e = absurd (omega (arith, number-fits refusal .0))
+  done z = nothing-refused answer (sym e ∙ z)
 
   done-left : n ≡ 0 → after ≡ spelledSigneds CELL cells → after ≡ leftBy answer cells bytes
   done-left z w = w ∙ ap (λ (r : Answer). leftBy r cells bytes) (sym (done z))

@@ -1,27 +1,18 @@
--- `backward_in` is right because it calls `backward` on the cells that it reads, and what that answers is what it must.
+-- `backward_in` is right because the cells that it reads are those that the bytes spell, or are refused as those would be; `backward` does the rest.
 use borrow.Author.Needs.{needs}
 use mathlib.Core.Path.{_≡_, sym, _∙_, ap}
 use mathlib.Core.List.{List, []}
 use Prim.Native.Nat.{ℕ, _*_}
-use lib.IntN.{ℤ, pos, negℤ}
 use lib.ListN.{length}
 use denote.Ref.{now}
 use Rattle.refusal.specs.BlockKinds.{LARGEST}
-use Rattle.block.specs.Cells.{LOUDEST-LINE}
 use Rattle.bytes.specs.Reading.{signeds}
 use Rattle.spectrum.specs.Spectrum.{backward}
 use Rattle.host.specs.CellBytes.{CELL}
 use Rattle.host.proofs.Counts.{count-room}
-use Rattle.host.proofs.Calls.{tests-packable, room-in-place, answered-in-place}
+use Rattle.host.proofs.Calls.{LEAST-LINE, LARGEST-LINE, tests-packable, room-in-place, answered-in-place}
 use Rattle.host.proofs.backward_in.Statement.{statement}
 use Rattle.host.proofs.backward_in.Tie as tie
-
--- the limits of a spectrum
-abbrev low : ℤ
-low = negℤ (pos LOUDEST-LINE)
-
-abbrev high : ℤ
-high = pos LOUDEST-LINE
 
 -- what was lent, once the call on the cells has answered
 abbrev start : tie.After-backward → tie.Start
@@ -46,7 +37,7 @@ backward-requires c κs = search needs
 answered-requires : tie.Need-answered-requires
 answered-requires c κs = let f = c .before .before .before in let s = f .backward .ensures .0 in
     let kept : length (f .backward .last .0) ≡ room f = search needs in
-    (tests-packable low high [] _ s, λ d. room-in-place low high backward (lent f) (room f) (start f .pre) _ (read f) s d ∙ ap (λ (n : ℕ). CELL * n) (sym kept))
+    (tests-packable LEAST-LINE LARGEST-LINE [] _ s, λ d. room-in-place LEAST-LINE LARGEST-LINE backward (lent f) (room f) (start f .pre) _ (read f) s d ∙ ap (λ (n : ℕ). CELL * n) (sym kept))
 
 same-length : tie.Need-same-length
 same-length c = search needs
@@ -56,7 +47,7 @@ same-length-2 c = search needs
 
 returns : tie.Need-returns
 returns c = let f = c .before .before .before .before .before .before in let e = f .backward .ensures in let a = c .before .before .answered .ensures in
-    answered-in-place low high backward (lent f) (room f) (start f .pre) _ (read f) (e .0) (f .backward .last .0) _ _ (e .1 .1) (a .0) (a .1)
+    answered-in-place LEAST-LINE LARGEST-LINE backward (lent f) (room f) (start f .pre) _ (read f) (e .0) (f .backward .last .0) _ _ (e .1 .1) (a .0) (a .1)
 
 pub backward-in-spec : {M : Type 1} → statement M
 backward-in-spec = tie.close (tie.spec decode-requires backward-requires answered-requires same-length same-length-2 returns)

@@ -13,13 +13,13 @@ module _ (n most : ℕ) where
   left-over h = rw (ne-eqb (n % 8) 0 h) refl
 
   module _ (whole : n % 8 ≡ 0) where
-    too-many : most < n / 8 → 0 ≡ cellCount most n
+    too-many : most < n → 0 ≡ cellCount most n
     unfolding cellCount
-    too-many h = rw (eq-eqb (n % 8) 0 whole, lt-leb (n / 8) most h) refl
+    too-many h = rw (eq-eqb (n % 8) 0 whole, lt-leb n most h) refl
 
-    all : n / 8 ≤ most → n / 8 ≡ cellCount most n
+    all : n ≤ most → n / 8 ≡ cellCount most n
     unfolding cellCount
-    all h = rw (eq-eqb (n % 8) 0 whole, le-leb (n / 8) most h) refl
+    all h = rw (eq-eqb (n % 8) 0 whole, le-leb n most h) refl
 
 returns : tie.Need-returns
 returns c = (left-over _ _ (λ e. omega arith), omega arith)

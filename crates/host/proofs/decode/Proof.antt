@@ -1,4 +1,4 @@
--- `decode` is right because cell i takes the signed number that stands for the word of the eight bytes from byte 8 i on.
+-- `decode` is right because cell i takes the signed number that the word of the eight bytes from byte 8 i on stands for.
 use borrow.Author.Needs.{needs, sfits-of}
 use mathlib.Core.Path.{_≡_, refl, sym, _∙_, ap, ap₂}
 use mathlib.Core.List.{List}
@@ -11,9 +11,9 @@ use mir.Facts.{toZ-ofZ}
 use mir.Syntax.{w64}
 use mir.Val.{toZ, ofZ}
 use Rattle.ints.proofs.Filling.{Filled, filled-next, filled-all}
-use Rattle.ints.proofs.Parts.{length-part}
 use Rattle.bytes.specs.Reading.{complement, signed, signeds, unsigned}
 use Rattle.bytes.proofs.Signed.{signeds-tabulated}
+use Rattle.host.proofs.Counts.{eight}
 use Rattle.host.proofs.decode.Statement.{statement}
 use Rattle.host.proofs.decode.Tie as tie
 
@@ -24,16 +24,10 @@ module _ (bytes : List ℕ) where
 
   -- its bytes, from `start` to `end`
   module _ (i start end : ℕ) (es : start ≡ 8 * i) (ee : end ≡ start + 8) (h : end ≤ length bytes) where
-    eight : length (take (end - start) (drop start bytes)) ≡ 8
-    eight = length-part 0 start (end - start) bytes (omega arith) ∙ many
-      where
-        many : end - start ≡ 8
-        many = omega arith
-
     -- the word of those bytes stands for z
     is-cell : (word : ℕ) (z : ℤ) → word ≡ unsigned (take (end - start) (drop start bytes)) → z ≡ complement (256 ^ 8) word → z ≡ spelled i
     unfolding signed
-    is-cell word z ew ez = ez ∙ ap (complement (256 ^ 8)) ew ∙ ap (λ (m : ℕ). complement (256 ^ m) (unsigned (take (end - start) (drop start bytes)))) (sym eight)
+    is-cell word z ew ez = ez ∙ ap (complement (256 ^ 8)) ew ∙ ap (λ (m : ℕ). complement (256 ^ m) (unsigned (take (end - start) (drop start bytes)))) (sym (eight bytes start end ee h))
         ∙ ap₂ (λ (m k : ℕ). signed (take m (drop k bytes))) many es
       where
         many : end - start ≡ 8
@@ -67,7 +61,7 @@ part-word-end : tie.Need-part-word-end Inv-loop μ-loop
 part-word-end c = omega arith
 
 word-requires : tie.Need-word-requires Inv-loop μ-loop
-word-requires c κs = let i = c .before .before .loop .i in eight _ i (8 * i) (8 * i + 8) refl refl (omega arith)
+word-requires c κs = let i = c .before .before .loop .i in eight _ (8 * i) (8 * i + 8) refl (omega arith)
 
 complement-requires : tie.Need-complement-requires Inv-loop μ-loop
 complement-requires c κs = search needs

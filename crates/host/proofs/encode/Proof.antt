@@ -6,16 +6,17 @@ use mathlib.Core.List.{List}
 use Prim.Native.Nat.{ℕ, _+_, _-_, _*_, _^_, _≤_, _<_}
 use native.Mathlib.Omega.{arith}
 use lib.IntN.{ℤ}
-use lib.ListN.{length, getD, take, drop}
+use lib.ListN.{length, getD}
 use lib.Seq.{ext-getD}
 use denote.Ref.{now}
 use mir.Facts.{toZ-ofZ}
 use Rattle.ints.proofs.Filling.{Filled}
-use Rattle.ints.proofs.Parts.{length-part, filled-part}
+use Rattle.ints.proofs.Parts.{filled-part}
 use Rattle.block.specs.Cells.{cell}
 use Rattle.bytes.specs.Spelling.{residue, spelled, spelledSigned, spelledSigneds}
 use Rattle.bytes.proofs.Unsigned.{length-spelled}
 use Rattle.bytes.proofs.Signed.{length-spelled-signeds, spelled-signeds-at}
+use Rattle.host.proofs.Counts.{eight}
 use Rattle.host.proofs.encode.Statement.{statement}
 use Rattle.host.proofs.encode.Tie as tie
 
@@ -26,16 +27,10 @@ module _ (cells : List ℤ) where
 
   -- the eight bytes of cell i are written from `start` to `end`
   module _ (i start end : ℕ) (es : start ≡ 8 * i) (ee : end ≡ start + 8) (bytes : List ℕ) (h : end ≤ length bytes) where
-    eight : length (take (end - start) (drop start bytes)) ≡ 8
-    eight = length-part 0 start (end - start) bytes (omega arith) ∙ many
-      where
-        many : end - start ≡ 8
-        many = omega arith
-
     next : (part : List ℕ) (word j : ℕ) (z : ℤ) → i < length cells → Filled 0 byte (8 * i) bytes → part ≡ spelled 8 word → word ≡ residue (256 ^ 8) z → z ≡ cell cells i → j ≡ i + 1
         → let after = putMid start (end - start) bytes part in (length after ≡ length bytes) × Filled 0 byte (8 * j) after
     unfolding spelledSigned
-    next part word j z l F ep ew ez ej = (same-len-mid start (end - start) bytes part (long ∙ sym eight), λ k g. filled k (omega arith))
+    next part word j z l F ep ew ez ej = (same-len-mid start (end - start) bytes part (long ∙ sym (eight bytes start end ee h)), λ k g. filled k (omega arith))
       where
         long : length part ≡ 8
         long = ap length ep ∙ length-spelled 8 word
@@ -84,7 +79,7 @@ part-put-word-end : tie.Need-part-put-word-end Inv-loop μ-loop
 part-put-word-end c = omega arith
 
 put-word-requires : tie.Need-put-word-requires Inv-loop μ-loop
-put-word-requires c κs = let l = c .before .before .before .before .loop in eight (now (c .before .before .before .before .before .before .args .cells)) (l .i) (8 * l .i) (8 * l .i + 8) refl refl (l .bytes) (omega arith)
+put-word-requires c κs = let l = c .before .before .before .before .loop in eight (l .bytes) (8 * l .i) (8 * l .i + 8) refl (omega arith)
 
 add-i : tie.Need-add-i Inv-loop μ-loop
 add-i c = omega arith

@@ -1,4 +1,4 @@
--- `forward_in` is right because it calls `forward` on the cells that it reads, and what that answers is what it must.
+-- `forward_in` is right because the cells that it reads are those that the bytes spell, or are refused as those would be; `forward` does the rest.
 use borrow.Author.Needs.{needs}
 use mathlib.Core.Path.{_≡_, sym, _∙_, ap}
 use mathlib.Core.List.{List, []}

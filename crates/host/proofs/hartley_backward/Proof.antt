@@ -7,6 +7,9 @@ use Rattle.host.proofs.Calls.{told-so}
 use Rattle.host.proofs.hartley_backward.Statement.{statement}
 use Rattle.host.proofs.hartley_backward.Tie as tie
 
+mul-cell-count : tie.Need-mul-cell-count
+mul-cell-count c = search needs
+
 cell-count-requires : tie.Need-cell-count-requires
 cell-count-requires c κs = search needs
 
@@ -30,6 +33,7 @@ pub hartley-backward-spec : {M : Type 1} → statement M
 hartley-backward-spec =
     tie.close
     (tie.spec
+    mul-cell-count
     cell-count-requires
     array-borrow-prefix-block
     slice-aggregate-backward-in

@@ -8,6 +8,9 @@ use Rattle.host.proofs.Left.{near, first}
 use Rattle.host.proofs.hartley_forward.Statement.{statement}
 use Rattle.host.proofs.hartley_forward.Tie as tie
 
+mul-cell-count : tie.Need-mul-cell-count
+mul-cell-count c = search needs
+
 cell-count-requires : tie.Need-cell-count-requires
 cell-count-requires c κs = search needs
 
@@ -31,6 +34,7 @@ pub hartley-forward-spec : {M : Type 1} → statement M
 hartley-forward-spec =
     tie.close
     (tie.spec
+    mul-cell-count
     cell-count-requires
     array-borrow-prefix-block
     slice-aggregate-forward-in

@@ -1,10 +1,11 @@
 -- `hartley_power` is right because `power_in` is, given room for all cells that can be taken and for all their lines.
 use borrow.Author.Needs.{needs}
 use mathlib.Core.Path.{_≡_, sym, _∙_, ap}
-use Prim.Native.Nat.{ℕ, _+_, _/_}
+use Prim.Native.Nat.{ℕ, _+_, _*_, _/_}
 use native.Mathlib.Omega.{arith}
 use lib.Seq.{length-take-le}
 use Rattle.refusal.specs.BlockKinds.{LARGEST}
+use Rattle.host.specs.CellBytes.{CELL}
 use Rattle.host.specs.Workers.{cellCount}
 use Rattle.host.proofs.Calls.{told-so}
 use Rattle.host.proofs.hartley_power.Statement.{statement}
@@ -14,8 +15,14 @@ use Rattle.host.proofs.hartley_power.Tie as tie
 counted : {r : ℕ} (given most bytes : ℕ) → r ≡ cellCount given bytes → given ≡ most → r ≡ cellCount most bytes
 counted given most bytes e same = e ∙ ap (λ (m : ℕ). cellCount m bytes) same
 
+mul-cell-count : tie.Need-mul-cell-count
+mul-cell-count c = search needs
+
 cell-count-requires : tie.Need-cell-count-requires
 cell-count-requires c κs = search needs
+
+mul-cell-count-2 : tie.Need-mul-cell-count-2
+mul-cell-count-2 c = search needs
 
 cell-count-requires-2 : tie.Need-cell-count-requires-2
 cell-count-requires-2 c κs = search needs
@@ -34,7 +41,7 @@ slice-aggregate-power-in-2 c = sym (length-take-le _ _ (omega (arith, c .before 
 
 power-in-requires : tie.Need-power-in-requires
 power-in-requires c κs = let m = c .before .before .before .before .cell-count .ensures in let n = c .before .before .before .cell-count2 .ensures in
-    (length-take-le _ _ (omega (arith, n .1)) ∙ counted _ LARGEST _ (n .0) (omega arith), length-take-le _ _ (omega (arith, m .1)) ∙ counted _ (LARGEST / 2 + 1) _ (m .0) (omega arith))
+    (length-take-le _ _ (omega (arith, n .1)) ∙ counted _ (CELL * LARGEST) _ (n .0) (omega arith), length-take-le _ _ (omega (arith, m .1)) ∙ counted _ (CELL * (LARGEST / 2 + 1)) _ (m .0) (omega arith))
 
 same-length : tie.Need-same-length
 same-length c = search needs
@@ -46,7 +53,9 @@ pub hartley-power-spec : {M : Type 1} → statement M
 hartley-power-spec =
     tie.close
     (tie.spec
+    mul-cell-count
     cell-count-requires
+    mul-cell-count-2
     cell-count-requires-2
     array-borrow-prefix-cells
     slice-aggregate-power-in

@@ -1,4 +1,4 @@
--- `power_in` is right because it calls `power` on the cells that it reads, with as many cells for an output as are lent, and what that answers is what it must.
+-- `power_in` is right because the cells that it reads are those that the bytes spell, or are refused as those would be, and so are the cells of the output; `power` does the rest.
 use borrow.Author.Needs.{needs}
 use mathlib.Core.Path.{_≡_, sym, _∙_, ap}
 use mathlib.Core.List.{List}
@@ -27,8 +27,8 @@ powers f = now (start f .args .powers)
 abbrev room : tie.After-power → ℕ
 room f = length (now (start f .args .cells))
 
-abbrev lines : tie.After-power → List ℤ
-lines f = now (start f .args .lines)
+abbrev values : tie.After-power → List ℤ
+values f = now (start f .args .values)
 
 -- the cells that the call was given
 read : (f : tie.After-power) → f .before .before .before .before .decode .last .1 .0 ≡ signeds CELL (room f) (spectrum f)
@@ -42,9 +42,9 @@ power-requires c κs = search needs
 
 answered-requires : tie.Need-answered-requires
 answered-requires c κs = let f = c .before .before .before in let s = f .power .ensures .0 in let p = start f .pre in
-    let kept : length (f .power .last .1 .0) ≡ length (lines f) = search needs in (
-      power-packable (spectrum f) (powers f) (room f) (p .0) (lines f) (p .1) _ (read f) s,
-      λ d. power-room (spectrum f) (powers f) (room f) (p .0) (lines f) (p .1) _ (read f) s d ∙ ap (λ (n : ℕ). CELL * n) (sym kept),
+    let kept : length (f .power .last .1 .0) ≡ length (values f) = search needs in (
+      power-packable (spectrum f) (powers f) (room f) (p .0) (values f) (p .1) _ (read f) s,
+      λ d. power-room (spectrum f) (powers f) (room f) (p .0) (values f) (p .1) _ (read f) s d ∙ ap (λ (n : ℕ). CELL * n) (sym kept),
     )
 
 same-length : tie.Need-same-length
@@ -58,7 +58,7 @@ same-length-3 c = search needs
 
 returns : tie.Need-returns
 returns c = let f = c .before .before .before .before .before .before in let e = f .power .ensures in let p = start f .pre in let a = c .before .before .answered .ensures in
-    answered-power (spectrum f) (powers f) (room f) (p .0) (lines f) (p .1) _ (read f) (e .0) (f .power .last .1 .0) _ _ (e .1 .1) (a .0) (a .1)
+    answered-power (spectrum f) (powers f) (room f) (p .0) (values f) (p .1) _ (read f) (e .0) (f .power .last .1 .0) _ _ (e .1 .1) (a .0) (a .1)
 
 pub power-in-spec : {M : Type 1} → statement M
 power-in-spec = tie.close (tie.spec decode-requires power-requires answered-requires same-length same-length-2 same-length-3 returns)
