@@ -67,16 +67,13 @@ told-so {tests} a = ap blockNumbers (a .says) ∙ block-unpacked tests
 module _ (low high : ℤ) (result : ℕ → List ℤ → List ℤ) (bytes : List ℕ) (n : ℕ) (e : n ≡ cellCount (CELL * LARGEST) (length bytes)) where
   -- ys are the cells that the call was given
   module _ {r : Answer} (ys : List ℤ) (is : ys ≡ signeds CELL n bytes) (s : r ≡ answerTo (tested low high [] ys)) where
-    all-read : (kind : BlockKind) → tested low high [] ys ≡ Taken kind → (cellsIn bytes ≡ signeds CELL n bytes) × (length bytes ≡ CELL * n)
-    all-read kind t = read-taken low high [] bytes n e kind (ap (tested low high []) (sym is) ∙ t)
-
     pub room-in-place : r ≡ Done → length bytes ≡ CELL * n
-    room-in-place d = let t = taken (tested low high [] ys) (sym d ∙ s) in all-read (t .0) (t .1) .1
+    room-in-place d = let t = taken (tested low high [] ys) (sym d ∙ s) in read-taken low high [] bytes n e ys is (t .0) (t .1) .1
 
     pub answered-in-place : (zs : List ℤ) (after : List ℕ) (answer : ℕ) → zs ≡ cellsLeft (λ P. result P ys) ys (tested low high [] ys) → answer ≡ packed r → after ≡ leftBy r zs bytes
         → Answered (tested low high [] (cellsIn bytes)) (λ P. result P (cellsIn bytes)) bytes after answer
-    answered-in-place zs after answer z a l = answered-so _ (tested low high [] ys) _ bytes after answer r zs (ap (tested low high []) is ∙ read-tested low high [] bytes n e) s a l
-        (λ kind t. z ∙ ap (cellsLeft (λ P. result P ys) ys) t ∙ ap (result (kind .p)) (is ∙ sym (all-read kind t .0)))
+    answered-in-place zs after answer z a l = answered-so _ (tested low high [] ys) _ bytes after answer r zs (read-tested low high [] bytes n e ys is) s a l
+        (λ kind t. z ∙ ap (cellsLeft (λ P. result P ys) ys) t ∙ ap (result (kind .p)) (read-taken low high [] bytes n e ys is kind t .0))
 
 -- ---- the power, which has an output of its own
 
@@ -84,7 +81,7 @@ module _ (spectrum powers : List ℕ) (n : ℕ) (en : n ≡ cellCount (CELL * LA
   module _ {r : Answer} (ys : List ℤ) (is : ys ≡ signeds CELL n spectrum) (s : r ≡ answerTo (testedPower ys lent)) where
     same-tests : testedPower ys lent ≡ testedPower (cellsIn spectrum) (cellsIn powers)
     unfolding testedPower
-    same-tests = ap (tested LEAST-LINE LARGEST-LINE (length lent ∷ [])) is ∙ read-tested LEAST-LINE LARGEST-LINE (length lent ∷ []) spectrum n en ∙ output-tested LEAST-LINE LARGEST-LINE powers (cellsIn spectrum) (length lent) em
+    same-tests = read-tested LEAST-LINE LARGEST-LINE (length lent ∷ []) spectrum n en ys is ∙ output-tested LEAST-LINE LARGEST-LINE powers (cellsIn spectrum) (length lent) em
 
     pub power-packable : Packable r
     unfolding testedPower
@@ -96,7 +93,7 @@ module _ (spectrum powers : List ℕ) (n : ℕ) (en : n ≡ cellCount (CELL * LA
 
     all-cells : (kind : BlockKind) → testedPower ys lent ≡ Taken kind → ys ≡ cellsIn spectrum
     unfolding testedPower
-    all-cells kind t = is ∙ sym (read-taken LEAST-LINE LARGEST-LINE (length lent ∷ []) spectrum n en kind (ap (tested LEAST-LINE LARGEST-LINE (length lent ∷ [])) (sym is) ∙ t) .0)
+    all-cells kind t = read-taken LEAST-LINE LARGEST-LINE (length lent ∷ []) spectrum n en ys is kind t .0
 
     pub answered-power : (zs : List ℤ) (after : List ℕ) (answer : ℕ) → zs ≡ powersLeft ys lent → answer ≡ packed r → after ≡ leftBy r zs powers
         → Answered (testedPower (cellsIn spectrum) (cellsIn powers)) (λ _. doubledLines Power (cellsIn spectrum)) powers after answer

@@ -1,7 +1,7 @@
 -- The cells that are read from bytes, and why the engine's own tests then refuse just what a host must be refused: where a byte is left over, or there are
 -- more cells than any call takes, no cell is read.
--- Example: `read-tested low high outputs bytes n e : tested low high outputs (signeds CELL n bytes) ≡ tested low high outputs (cellsIn bytes)`, with
--- e : n ≡ cellCount (CELL * LARGEST) (length bytes).
+-- Example: `read-tested low high outputs bytes n e ys is : tested low high outputs ys ≡ tested low high outputs (cellsIn bytes)`, with
+-- e : n ≡ cellCount (CELL * LARGEST) (length bytes) and is : ys ≡ signeds CELL n bytes.
 use mathlib.Core.Path.{_≡_, refl, sym, _∙_, ap}
 use mathlib.Core.Bool.{Bool, true, false, cond, _&&_}
 use mathlib.Core.List.{List, [], _∷_}
@@ -80,24 +80,28 @@ module _ (low high : ℤ) (outputs : List ℕ) (bytes : List ℕ) where
   pub left-over-block : (length bytes % CELL ≡ 0 → ⊥) → tested low high outputs (cellsIn bytes) ≡ Refused Length
   left-over-block h = tested-length low high outputs (cellsIn bytes) (no-block (ap length (no-cells bytes h)))
 
-  module _ (n : ℕ) (e : n ≡ cellCount (CELL * LARGEST) (length bytes)) where
-    -- the tests of the cells that are read say what those of the cells that the bytes spell would
-    pub read-tested : tested low high outputs (signeds CELL n bytes) ≡ tested low high outputs (cellsIn bytes)
+  -- ys are the cells that are read
+  module _ (n : ℕ) (e : n ≡ cellCount (CELL * LARGEST) (length bytes)) (ys : List ℤ) (is : ys ≡ signeds CELL n bytes) where
+    long : length ys ≡ n
+    long = ap length is ∙ length-signeds CELL n bytes
+
+    -- their tests say what those of the cells that the bytes spell would
+    pub read-tested : tested low high outputs ys ≡ tested low high outputs (cellsIn bytes)
     read-tested = go (reads LARGEST bytes n e)
       where
-        go : Reads LARGEST bytes n → tested low high outputs (signeds CELL n bytes) ≡ tested low high outputs (cellsIn bytes)
-        go (same k room whole) = ap (tested low high outputs) (sym k)
-        go (too-many z k) = tested-length low high outputs (signeds CELL n bytes) (no-block (length-signeds CELL n bytes ∙ z)) ∙ sym (tested-length low high outputs (cellsIn bytes) (large-block k))
+        go : Reads LARGEST bytes n → tested low high outputs ys ≡ tested low high outputs (cellsIn bytes)
+        go (same k room whole) = ap (tested low high outputs) (is ∙ sym k)
+        go (too-many z k) = tested-length low high outputs ys (no-block (long ∙ z)) ∙ sym (tested-length low high outputs (cellsIn bytes) (large-block k))
 
     -- and where they are taken, they are the same cells
-    pub read-taken : (kind : BlockKind) → tested low high outputs (signeds CELL n bytes) ≡ Taken kind → (cellsIn bytes ≡ signeds CELL n bytes) × (length bytes ≡ CELL * n)
+    pub read-taken : (kind : BlockKind) → tested low high outputs ys ≡ Taken kind → (ys ≡ cellsIn bytes) × (length bytes ≡ CELL * n)
     read-taken kind t = go (reads LARGEST bytes n e)
       where
         some : 2 ≤ n
-        some = let k = taken-kind low high outputs (signeds CELL n bytes) kind t in omega (arith, kind-least k, length-signeds CELL n bytes)
+        some = omega (arith, kind-least (taken-kind low high outputs ys kind t), long)
 
-        go : Reads LARGEST bytes n → (cellsIn bytes ≡ signeds CELL n bytes) × (length bytes ≡ CELL * n)
-        go (same k room whole) = (k, whole (omega (arith, some)))
+        go : Reads LARGEST bytes n → (ys ≡ cellsIn bytes) × (length bytes ≡ CELL * n)
+        go (same k room whole) = (is ∙ sym k, whole (omega (arith, some)))
         go (too-many z k) = absurd (omega (arith, some))
 
 -- ---- an output
