@@ -1,5 +1,5 @@
 /*
- * The spectrum engine and the trace check of the crispness bench, for hosts in C on x86-64. Link with libhost.a.
+ * The spectrum engine and the trace check of the crispness bench, for hosts in C on x86-64. Link with libhartley.a.
  *
  * Every call ends, whatever bytes it is given, and tests them itself. It keeps nothing between calls, and reads and writes
  * only the bytes that it is lent. Where it refuses, every lent byte is as it was.

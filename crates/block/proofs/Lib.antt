@@ -1,3 +1,4 @@
 pub mod Taken
 pub mod Limits
 pub mod Refused
+pub mod SamplesTaken

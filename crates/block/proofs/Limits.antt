@@ -5,9 +5,9 @@ use Prim.Native.Nat.{ℕ}
 use lib.Dec.{T}
 use lib.IntN.{ℤ}
 use Rattle.ints.proofs.Order.{equal, equal-is}
-use Rattle.refusal.specs.declared.KindAnswer.{KindAnswer}
+use Rattle.block.specs.declared.BlockVerdict.{BlockVerdict}
 use Rattle.block.specs.Tests.{tested}
 
 -- l and h, which are handed on, are low and high
-pub by-limits : {k : KindAnswer} (low high l h : ℤ) (outputs : List ℕ) (xs : List ℤ) → k ≡ tested l h outputs xs → T (equal l low) → T (equal h high) → k ≡ tested low high outputs xs
+pub by-limits : {k : BlockVerdict} (low high l h : ℤ) (outputs : List ℕ) (xs : List ℤ) → k ≡ tested l h outputs xs → T (equal l low) → T (equal h high) → k ≡ tested low high outputs xs
 by-limits low high l h outputs xs e t u = e ∙ ap₂ (λ (l h : ℤ). tested l h outputs xs) (equal-is l low t) (equal-is h high u)

@@ -4,21 +4,23 @@
 use mathlib.Core.Path.{_≡_, refl, subst}
 use mathlib.Core.Bool.{Bool, true, false}
 use mathlib.Core.List.{List}
-use Prim.Native.Nat.{ℕ, zero, suc, _+_, _/_, _^_, _≤_}
+use Prim.Native.Nat.{ℕ, _+_, _/_, _^_, _≤_}
 use native.Mathlib.Omega.{arith}
 use borrow.Author.Tests.{ltb-true}
 use lib.Dec.{ltb}
 use lib.IntN.{ℤ}
 use lib.ListN.{length}
 use lib.Pow.{pow-mono}
-use Rattle.refusal.specs.declared.KindAnswer.{KindAnswer}
-use Rattle.refusal.specs.declared.KindAnswer.the-variants.{Taken, Refused}
+use Rattle.block.specs.declared.BlockVerdict.{BlockVerdict}
+use Rattle.block.specs.declared.BlockVerdict.the-variants.{Taken, Refused}
 use Rattle.refusal.specs.declared.Refusal.{Refusal}
 use Rattle.refusal.specs.declared.Refusal.the-variants.{Length, Misfit, Loud}
 use Rattle.refusal.specs.RefusalTable.{place}
-use Rattle.refusal.specs.BlockKinds.{LARGEST, exponent, answer, kindOf}
-use Rattle.refusal.proofs.Lengths.{Kind-length, kind-length, kind-refused}
-use Rattle.block.specs.Tests.{refusedIf, misfit, firstLoud, tested}
+use Rattle.kind.specs.BlockKinds.{LARGEST, kindOf}
+use Rattle.kind.specs.declared.KindFound.{KindFound}
+use Rattle.kind.specs.declared.KindFound.the-variants.{Found, None}
+use Rattle.kind.proofs.Lengths.{Kind-length, kind-length, kind-none}
+use Rattle.block.specs.Tests.{ofLength, refusedIf, misfit, firstLoud, tested}
 
 -- a block has 2 cells or more, and not more than the largest
 pub kind-least : {n P : ℕ} → Kind-length n P → 2 ≤ n
@@ -31,7 +33,7 @@ module _ (low high : ℤ) where
   -- 1, whatever the outputs are
   pub tested-length : (outputs : List ℕ) (xs : List ℤ) → ((P : ℕ) → Kind-length (length xs) P → ⊥) → tested low high outputs xs ≡ Refused Length
   unfolding tested
-  tested-length outputs xs h = rw (kind-refused (length xs) h) refl
+  tested-length outputs xs h = rw (kind-none (length xs) h) refl
 
   -- outputs that fit as little, or as much, as others
   pub tested-outputs : (os ps : List ℕ) (xs : List ℤ) → ((P : ℕ) → Kind-length (length xs) P → misfit (length xs / 2 + 1) os ≡ misfit (length xs / 2 + 1) ps)
@@ -39,29 +41,21 @@ module _ (low high : ℤ) where
   unfolding tested
   tested-outputs os ps xs h = go (kindOf (length xs)) refl
     where
-      go : (k : KindAnswer) → kindOf (length xs) ≡ k → refusedIf (ltb (firstLoud low high xs) (length xs)) (Loud (firstLoud low high xs)) (refusedIf (misfit (length xs / 2 + 1) os) Misfit k)
-          ≡ refusedIf (ltb (firstLoud low high xs) (length xs)) (Loud (firstLoud low high xs)) (refusedIf (misfit (length xs / 2 + 1) ps) Misfit k)
-      go (Taken kind) e = rw (h (kind .p) (kind-length (length xs) (kind .p) e)) refl
-      go (Refused refusal) e = refl
+      go : (k : KindFound) → kindOf (length xs) ≡ k → refusedIf (ltb (firstLoud low high xs) (length xs)) (Loud (firstLoud low high xs)) (refusedIf (misfit (length xs / 2 + 1) os) Misfit (ofLength k))
+          ≡ refusedIf (ltb (firstLoud low high xs) (length xs)) (Loud (firstLoud low high xs)) (refusedIf (misfit (length xs / 2 + 1) ps) Misfit (ofLength k))
+      go (Found kind) e = rw (h (kind .p) (kind-length (length xs) (kind .p) e)) refl
+      go None e = refl
 
 -- ---- the place of a refusal
 
-abbrev Placed : KindAnswer → Type 0
+abbrev Placed : BlockVerdict → Type 0
 Placed (Taken kind) = Unit {0}
 Placed (Refused refusal) = place refusal ≤ LARGEST
 
-placed-if : (fault : Bool) (refusal : Refusal) (k : KindAnswer) → Placed k → (fault ≡ true → place refusal ≤ LARGEST) → Placed (refusedIf fault refusal k)
+placed-if : (fault : Bool) (refusal : Refusal) (k : BlockVerdict) → Placed k → (fault ≡ true → place refusal ≤ LARGEST) → Placed (refusedIf fault refusal k)
 placed-if fault refusal (Refused earlier) h g = h
 placed-if true refusal (Taken kind) h g = g refl
 placed-if false refusal (Taken kind) h g = tt
-
-placed-kind : (n : ℕ) → Placed (kindOf n)
-unfolding kindOf
-placed-kind n = go (exponent 10 n)
-  where
-    go : (P : ℕ) → Placed (answer P)
-    go zero = omega arith
-    go (suc P) = tt
 
 module _ (low high : ℤ) (outputs : List ℕ) (xs : List ℤ) where
   placed : Placed (tested low high outputs xs)
@@ -71,11 +65,11 @@ module _ (low high : ℤ) (outputs : List ℕ) (xs : List ℤ) where
       loud : ℕ
       loud = firstLoud low high xs
 
-      go : (k : KindAnswer) → kindOf (length xs) ≡ k → Placed (refusedIf (ltb loud (length xs)) (Loud loud) (refusedIf (misfit (length xs / 2 + 1) outputs) Misfit k))
-      go (Taken kind) e = let unfit = misfit (length xs / 2 + 1) outputs in
+      go : (k : KindFound) → kindOf (length xs) ≡ k → Placed (refusedIf (ltb loud (length xs)) (Loud loud) (refusedIf (misfit (length xs / 2 + 1) outputs) Misfit (ofLength k)))
+      go (Found kind) e = let unfit = misfit (length xs / 2 + 1) outputs in
           placed-if (ltb loud (length xs)) (Loud loud) (refusedIf unfit Misfit (Taken kind)) (placed-if unfit Misfit (Taken kind) tt (λ t. omega arith))
           (λ t. omega (arith, ltb-true loud (length xs) t, kind-largest (kind-length (length xs) (kind .p) e)))
-      go (Refused refusal) e = subst Placed e (placed-kind (length xs))
+      go None e = omega arith
 
   pub refused-place : (refusal : Refusal) → tested low high outputs xs ≡ Refused refusal → place refusal ≤ LARGEST
   refused-place refusal e = subst Placed e placed

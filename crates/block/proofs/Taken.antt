@@ -15,17 +15,20 @@ use Rattle.ints.proofs.Ring.{quotes}
 use Rattle.ints.proofs.Order.{_≼_, le-fact}
 use Rattle.ints.proofs.Comparisons.{at-most-test}
 use Rattle.ints.proofs.Abs.{abs-fact}
-use Rattle.refusal.specs.declared.BlockKind.{BlockKind}
-use Rattle.refusal.specs.declared.KindAnswer.{KindAnswer}
-use Rattle.refusal.specs.declared.KindAnswer.the-variants.{Taken, Refused}
-use Rattle.refusal.specs.declared.Line.{Line}
+use Rattle.kind.specs.declared.BlockKind.{BlockKind}
+use Rattle.kind.specs.declared.KindFound.{KindFound}
+use Rattle.kind.specs.declared.KindFound.the-variants.{Found, None}
+use Rattle.block.specs.declared.BlockVerdict.{BlockVerdict}
+use Rattle.block.specs.declared.BlockVerdict.the-variants.{Taken, Refused}
+use Rattle.kind.specs.declared.Line.{Line}
 use Rattle.refusal.specs.declared.Refusal.{Refusal}
-use Rattle.refusal.specs.declared.Refusal.the-variants.{Misfit, Loud, Line as LineAbove}
-use Rattle.refusal.specs.BlockKinds.{kindOf}
-use Rattle.refusal.proofs.Lengths.{Kind-length, kind-length, kind-given}
-use Rattle.block.specs.Cells.{cell, LOUDEST-SAMPLE, LOUDEST-LINE}
-use Rattle.block.specs.Accepted.{Accepted}
-use Rattle.block.specs.Tests.{refusedIf, misfit, firstLoud, tested, testedSamples, testedSpectrum, testedLine}
+use Rattle.refusal.specs.declared.Refusal.the-variants.{Length, Misfit, Loud, Line as LineAbove}
+use Rattle.kind.specs.BlockKinds.{kindWith, kindOf}
+use Rattle.kind.proofs.Lengths.{Kind-length, kind-length, kind-given}
+use Rattle.ints.specs.Cells.{cell}
+use Rattle.kind.specs.Loudness.{LOUDEST-SAMPLE, LOUDEST-LINE}
+use Rattle.block.specs.Transformable.{Transformable}
+use Rattle.block.specs.Tests.{ofLength, refusedIf, misfit, firstLoud, tested, testedSamples, testedSpectrum, testedLine}
 
 -- ---- a list with no loud cell
 
@@ -52,10 +55,15 @@ module _ (a b m : ℕ) (ha : a ≤ m) (hb : b ≤ m) where
 not-both : {A : Type 0} (refusal : Refusal) (kind : BlockKind) → Refused refusal ≡ Taken kind → A
 not-both refusal kind e = let z : _≡_ {A = ℕ} 0 1 = cc in absurd (omega arith)
 
-passed : (fault : Bool) (refusal : Refusal) (k : KindAnswer) (kind : BlockKind) → refusedIf fault refusal k ≡ Taken kind → (fault ≡ false) × (k ≡ Taken kind)
+passed : (fault : Bool) (refusal : Refusal) (k : BlockVerdict) (kind : BlockKind) → refusedIf fault refusal k ≡ Taken kind → (fault ≡ false) × (k ≡ Taken kind)
 passed fault refusal (Refused earlier) kind e = not-both earlier kind e
 passed true refusal (Taken asked) kind e = not-both refusal kind e
 passed false refusal (Taken asked) kind e = (refl, e)
+
+-- a length that is taken is that of the kind
+pub length-found : (k : KindFound) (kind : BlockKind) → ofLength k ≡ Taken kind → k ≡ Found kind
+length-found (Found asked) kind e = let same : asked ≡ kind = cc in ap Found same
+length-found None kind e = not-both Length kind e
 
 -- ---- outputs that fit
 
@@ -78,15 +86,15 @@ output-none wanted = refl
 -- ---- a block that is taken
 
 module _ (low high : ℤ) (outputs : List ℕ) (xs : List ℤ) (kind : BlockKind) (e : tested low high outputs xs ≡ Taken kind) where
-  quiet-then : (ltb (firstLoud low high xs) (length xs) ≡ false) × (refusedIf (misfit (length xs / 2 + 1) outputs) Misfit (kindOf (length xs)) ≡ Taken kind)
+  quiet-then : (ltb (firstLoud low high xs) (length xs) ≡ false) × (refusedIf (misfit (length xs / 2 + 1) outputs) Misfit (ofLength (kindOf (length xs))) ≡ Taken kind)
   unfolding tested
-  quiet-then = passed (ltb (firstLoud low high xs) (length xs)) (Loud (firstLoud low high xs)) (refusedIf (misfit (length xs / 2 + 1) outputs) Misfit (kindOf (length xs))) kind e
+  quiet-then = passed (ltb (firstLoud low high xs) (length xs)) (Loud (firstLoud low high xs)) (refusedIf (misfit (length xs / 2 + 1) outputs) Misfit (ofLength (kindOf (length xs)))) kind e
 
-  fits-then : (misfit (length xs / 2 + 1) outputs ≡ false) × (kindOf (length xs) ≡ Taken kind)
-  fits-then = passed (misfit (length xs / 2 + 1) outputs) Misfit (kindOf (length xs)) kind (quiet-then .1)
+  fits-then : (misfit (length xs / 2 + 1) outputs ≡ false) × (ofLength (kindOf (length xs)) ≡ Taken kind)
+  fits-then = passed (misfit (length xs / 2 + 1) outputs) Misfit (ofLength (kindOf (length xs))) kind (quiet-then .1)
 
   pub taken-kind : Kind-length (length xs) (kind .p)
-  taken-kind = kind-length (length xs) (kind .p) (fits-then .1)
+  taken-kind = kind-length (length xs) (kind .p) (length-found (kindOf (length xs)) kind (fits-then .1))
 
   pub taken-fits : misfit (length xs / 2 + 1) outputs ≡ false
   taken-fits = fits-then .0
@@ -100,14 +108,14 @@ samples-quiet xs kind e = taken-quiet 32768 32767 LOUDEST-SAMPLE [] xs kind (ome
 
 -- within any limits up to 2^28
 taken-accepted : (a b : ℕ) (outputs : List ℕ) (xs : List ℤ) (kind : BlockKind) → a ≤ LOUDEST-LINE → b ≤ LOUDEST-LINE → tested (negℤ (pos a)) (pos b) outputs xs ≡ Taken kind
-    → Accepted (kind .p) xs
+    → Transformable (kind .p) xs
 taken-accepted a b outputs xs kind ha hb e = let k = taken-kind (negℤ (pos a)) (pos b) outputs xs kind e in
     record { least = k .least; most = k .most; long = k .cells; quiet = taken-quiet a b LOUDEST-LINE outputs xs kind ha hb e }
 
-pub samples-accepted : (xs : List ℤ) (kind : BlockKind) → testedSamples xs ≡ Taken kind → Accepted (kind .p) xs
+pub samples-accepted : (xs : List ℤ) (kind : BlockKind) → testedSamples xs ≡ Taken kind → Transformable (kind .p) xs
 samples-accepted xs kind e = taken-accepted 32768 32767 [] xs kind (omega arith) (omega arith) e
 
-pub spectrum-accepted : (outputs : List ℕ) (xs : List ℤ) (kind : BlockKind) → testedSpectrum outputs xs ≡ Taken kind → Accepted (kind .p) xs
+pub spectrum-accepted : (outputs : List ℕ) (xs : List ℤ) (kind : BlockKind) → testedSpectrum outputs xs ≡ Taken kind → Transformable (kind .p) xs
 spectrum-accepted outputs xs kind e = taken-accepted LOUDEST-LINE LOUDEST-LINE outputs xs kind (omega arith) (omega arith) e
 
 pub taken-line : (line : Line) (xs : List ℤ) (kind : BlockKind) → testedLine line xs ≡ Taken kind → (testedSpectrum [] xs ≡ Taken kind) × (line .0 ≤ length xs / 2)
@@ -121,6 +129,6 @@ all-quiet low high [] h k = refl
 all-quiet low high (x ∷ xs) h k = rw (at-most-test x low (h 0), at-most-test high x (k 0)) (ap suc (all-quiet low high xs (λ i. h (suc i)) (λ i. k (suc i))))
 
 pub must-take : (low high : ℤ) (P : ℕ) (outputs : List ℕ) (xs : List ℤ) → Kind-length (length xs) P → misfit (length xs / 2 + 1) outputs ≡ false
-    → ((i : ℕ) → low ≼ cell xs i) → ((i : ℕ) → cell xs i ≼ high) → tested low high outputs xs ≡ Taken (record { p = P })
+    → ((i : ℕ) → low ≼ cell xs i) → ((i : ℕ) → cell xs i ≼ high) → tested low high outputs xs ≡ Taken (kindWith P)
 unfolding tested
 must-take low high P outputs xs n f h k = rw (all-quiet low high xs h k, le-ltb (length xs) (length xs) (omega arith), f, kind-given (length xs) P n) refl

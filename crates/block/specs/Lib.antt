@@ -1,4 +1,3 @@
-pub mod Cells
 pub mod Tests
-pub mod Answers
-pub mod Accepted
+pub mod BlockAnswers
+pub mod Transformable

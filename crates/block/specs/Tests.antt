@@ -1,4 +1,4 @@
--- Document 01, Refused input: block calls test 1, 2, 3, 4 in turn, and the first fault decides. Test 1 is `kindOf`.
+-- Document 01, Refused input: block calls test 1, 2, 3, 4 in turn, and the first fault decides. Test 1 goes by `kindOf`.
 use mathlib.Core.Bool.{Bool, false, cond, not, _||_}
 use mathlib.Core.List.{List, [], _∷_}
 use Prim.Native.Nat.{ℕ, suc, _+_, _/_}
@@ -6,16 +6,23 @@ use lib.Dec.{eqb, ltb}
 use lib.IntN.{ℤ, pos, negℤ}
 use lib.ListN.{length}
 use lib.Signed.{ltZ}
-use Rattle.refusal.specs.declared.KindAnswer.{KindAnswer}
-use Rattle.refusal.specs.declared.KindAnswer.the-variants.{Taken, Refused}
-use Rattle.refusal.specs.declared.Line.{Line}
+use Rattle.block.specs.declared.BlockVerdict.{BlockVerdict}
+use Rattle.block.specs.declared.BlockVerdict.the-variants.{Taken, Refused}
+use Rattle.kind.specs.declared.KindFound.{KindFound}
+use Rattle.kind.specs.declared.KindFound.the-variants.{Found, None}
+use Rattle.kind.specs.declared.Line.{Line}
 use Rattle.refusal.specs.declared.Refusal.{Refusal}
-use Rattle.refusal.specs.declared.Refusal.the-variants.{Misfit, Loud, Line as LineAbove}
-use Rattle.refusal.specs.BlockKinds.{kindOf}
-use Rattle.block.specs.Cells.{LEAST-SAMPLE, LARGEST-SAMPLE, LOUDEST-LINE}
+use Rattle.refusal.specs.declared.Refusal.the-variants.{Length, Misfit, Loud, Line as LineAbove}
+use Rattle.kind.specs.BlockKinds.{kindOf}
+use Rattle.kind.specs.Loudness.{LEAST-SAMPLE, LARGEST-SAMPLE, LOUDEST-LINE}
+
+-- 1, length: the block's kind, and the refusal where no block has this length
+abbrev pub ofLength : KindFound → BlockVerdict
+ofLength (Found kind) = Taken kind
+ofLength None = Refused Length
 
 -- one test more: a kind that was taken so far is refused where there is a fault, and an earlier refusal stays
-abbrev pub refusedIf : Bool → Refusal → KindAnswer → KindAnswer
+abbrev pub refusedIf : Bool → Refusal → BlockVerdict → BlockVerdict
 refusedIf fault refusal (Taken kind) = cond fault (Refused refusal) (Taken kind)
 refusedIf fault refusal (Refused earlier) = Refused earlier
 
@@ -30,23 +37,23 @@ firstLoud low high [] = 0
 firstLoud low high (x ∷ xs) = cond (ltZ x low || ltZ high x) 0 (suc (firstLoud low high xs))
 
 -- 1, 2 and 3 in turn: for cells of low to high, and for outputs that should have N/2 + 1 cells each
-unfoldable pub tested : ℤ → ℤ → List ℕ → List ℤ → KindAnswer
+unfoldable pub tested : ℤ → ℤ → List ℕ → List ℤ → BlockVerdict
 unfolding misfit firstLoud
 tested low high outputs xs =
     let N = length xs in
     let place = firstLoud low high xs in
-    let after-1 = kindOf N in
+    let after-1 = ofLength (kindOf N) in
     let after-2 = refusedIf (misfit (N / 2 + 1) outputs) Misfit after-1 in
     refusedIf (ltb place N) (Loud place) after-2
 
 -- forward: cells of -32,768 to 32,767
-abbrev pub testedSamples : List ℤ → KindAnswer
+abbrev pub testedSamples : List ℤ → BlockVerdict
 testedSamples xs = tested LEAST-SAMPLE LARGEST-SAMPLE [] xs
 
 -- any call that takes a spectrum: cells within ±2^28
-abbrev pub testedSpectrum : List ℕ → List ℤ → KindAnswer
+abbrev pub testedSpectrum : List ℕ → List ℤ → BlockVerdict
 testedSpectrum outputs xs = tested (negℤ (pos LOUDEST-LINE)) (pos LOUDEST-LINE) outputs xs
 
 -- and then 4, line: the line that is asked for is above N/2
-abbrev pub testedLine : Line → List ℤ → KindAnswer
+abbrev pub testedLine : Line → List ℤ → BlockVerdict
 testedLine line xs = refusedIf (ltb (length xs / 2) (line .0)) (LineAbove line) (testedSpectrum [] xs)

@@ -1,7 +1,7 @@
 // The tests of what is lent to a call on a block (document 01, Refused input: 1, 2, 3, 4 in turn), and the answer of such a call.
-use refusal::BlockKind;
-use refusal::KindAnswer;
-use refusal::Line;
+use kind::BlockKind;
+use kind::KindFound;
+use kind::Line;
 use refusal::Refusal;
 ghost use mathlib.Core.Path.{_≡_};
 ghost use Rattle.block.specs.Tests.{firstLoud, misfit, tested, testedLine, testedSamples, testedSpectrum};
@@ -21,58 +21,64 @@ pub enum Answer {
     Refused(Refusal),
 }
 
+// What the tests say of what is lent: the kind of a block that is taken, or the first fault.
+pub enum BlockVerdict {
+    Taken(BlockKind),
+    Refused(Refusal),
+}
+
 // The kind of a block of samples, or its first fault.
-pub fn tested_samples(cells: &[i64]) -> KindAnswer
+pub fn tested_samples(cells: &[i64]) -> BlockVerdict
     ensures { λ r. ⌜ r ≡ testedSamples (now (cells .entry)) ⌝ }
 {
-    tested(cells, LEAST_SAMPLE, LARGEST_SAMPLE, &[])
+    tested(LEAST_SAMPLE, LARGEST_SAMPLE, &[], cells)
 }
 
 // The kind of a spectrum, or the first fault of it and of the outputs that go with it: lists of so many cells, for lines 0 to N/2.
-pub fn tested_spectrum(cells: &[i64], outputs: &[usize]) -> KindAnswer
+pub fn tested_spectrum(outputs: &[usize], cells: &[i64]) -> BlockVerdict
     ensures { λ r. ⌜ r ≡ testedSpectrum (now (outputs .entry)) (now (cells .entry)) ⌝ }
 {
-    tested(cells, -LOUDEST_LINE, LOUDEST_LINE, outputs)
+    tested(-LOUDEST_LINE, LOUDEST_LINE, outputs, cells)
 }
 
 // The kind of a spectrum of which a line is asked, or the first fault.
-pub fn tested_line(cells: &[i64], line: Line) -> KindAnswer
+pub fn tested_line(line: Line, cells: &[i64]) -> BlockVerdict
     ensures { λ r. ⌜ r ≡ testedLine line (now (cells .entry)) ⌝ }
 {
-    match tested_spectrum(cells, &[]) {
-        KindAnswer::Refused(refusal) => KindAnswer::Refused(refusal),
-        KindAnswer::Taken(kind) => {
+    match tested_spectrum(&[], cells) {
+        BlockVerdict::Refused(refusal) => BlockVerdict::Refused(refusal),
+        BlockVerdict::Taken(kind) => {
             if cells.len() / 2 < line.0 {
-                KindAnswer::Refused(Refusal::Line(line))
+                BlockVerdict::Refused(Refusal::Line(line))
             } else {
-                KindAnswer::Taken(kind)
+                BlockVerdict::Taken(kind)
             }
         }
     }
 }
 
 // The tests 1, 2 and 3 in turn.
-fn tested(cells: &[i64], low: i64, high: i64, outputs: &[usize]) -> KindAnswer
+fn tested(low: i64, high: i64, outputs: &[usize], cells: &[i64]) -> BlockVerdict
     ensures { λ r. ⌜ r ≡ tested low high (now (outputs .entry)) (now (cells .entry)) ⌝ }
 {
     match BlockKind::of_len(cells.len()) {
-        KindAnswer::Refused(refusal) => KindAnswer::Refused(refusal),
-        KindAnswer::Taken(kind) => {
-            if misfit(outputs, cells.len() / 2 + 1) {
-                return KindAnswer::Refused(Refusal::Misfit);
+        KindFound::None => BlockVerdict::Refused(Refusal::Length),
+        KindFound::Found(kind) => {
+            if misfit(cells.len() / 2 + 1, outputs) {
+                return BlockVerdict::Refused(Refusal::Misfit);
             }
-            let place = first_loud(cells, low, high);
+            let place = first_loud(low, high, cells);
             if place < cells.len() {
-                KindAnswer::Refused(Refusal::Loud(place))
+                BlockVerdict::Refused(Refusal::Loud(place))
             } else {
-                KindAnswer::Taken(kind)
+                BlockVerdict::Taken(kind)
             }
         }
     }
 }
 
 // Whether an output has not as many cells as wanted.
-fn misfit(outputs: &[usize], wanted: usize) -> bool
+fn misfit(wanted: usize, outputs: &[usize]) -> bool
     ensures { λ r. ⌜ r ≡ misfit wanted (now (outputs .entry)) ⌝ }
 {
     let mut i = 0;
@@ -86,7 +92,7 @@ fn misfit(outputs: &[usize], wanted: usize) -> bool
 }
 
 // The place of the first cell outside low to high, or the number of cells where there is none.
-fn first_loud(cells: &[i64], low: i64, high: i64) -> usize
+fn first_loud(low: i64, high: i64, cells: &[i64]) -> usize
     ensures { λ r. ⌜ r ≡ firstLoud low high (now (cells .entry)) ⌝ }
 {
     let mut i = 0;

@@ -5,7 +5,7 @@ use Prim.Native.Nat.{ℕ, zero, suc, _+_, _-_, _*_, _/_, _%_, _^_, min}
 use lib.Dec.{leb, eqb}
 use lib.IntN.{ℤ, pos, negℤ, natAbs, _+ℤ_, _*ℤ_}
 use lib.ListN.{getD}
-use Rattle.refusal.specs.BlockKinds.{TURN}
+use Rattle.kind.specs.BlockKinds.{TURN}
 use Rattle.cosine.specs.Root.{root}
 
 -- a quarter's cosines as a list has them

@@ -15,7 +15,7 @@ use lib.Ieee.Back.{round-whole}
 use lib.Ieee.Scale.{round-same}
 use lib.Ieee.Exact.{HasValue, round-exact}
 use Rattle.fourier.specs.Scaled.{negative, quotient, Exactly}
-use Rattle.fourier.specs.Workers.{PowerOfTwo}
+use Rattle.fourier.specs.Inner.{PowerOfTwo}
 
 -- ---- fractions: where A / E is a and B / D is n, the quotient is a / n (`over`); where A / E is a / n and B / D is n, the product is a (`times`)
 

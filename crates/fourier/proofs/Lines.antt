@@ -11,13 +11,14 @@ use lib.Pow.{pow-mono}
 use mir.Facts.{toZ-ofZ}
 use mir.Syntax.{w64}
 use mir.Val.{toZ, ofZ}
-use Rattle.block.specs.Cells.{cell, LOUDEST-LINE}
-use Rattle.block.specs.Accepted.{Accepted}
+use Rattle.ints.specs.Cells.{cell}
+use Rattle.kind.specs.Loudness.{LOUDEST-LINE}
+use Rattle.block.specs.Transformable.{Transformable}
 use Rattle.fourier.specs.Parts.{H}
-use Rattle.fourier.specs.Workers.{PowerOfTwo}
+use Rattle.fourier.specs.Inner.{PowerOfTwo}
 use Rattle.fourier.proofs.Sizes.{line-fits}
 
-module _ {P : ℕ} {xs : List ℤ} (a : Accepted P xs) where
+module _ {P : ℕ} {xs : List ℤ} (a : Transformable P xs) where
   pub power-of-two : (most : ℕ) → 10 ≤ most → PowerOfTwo most (length xs)
   power-of-two most h = record { exponent = P; few = omega arith; is = a .long }
 

@@ -3,20 +3,21 @@
 use mathlib.Core.Path.{_≡_, sym, _∙_, ap, ap₂}
 use mathlib.Core.Bool.{Bool, true, false, not}
 use mathlib.Core.List.{List, [], _∷_}
-use Prim.Native.Nat.{ℕ, _+_, _-_, _/_, _≤_, _<_}
+use Prim.Native.Nat.{ℕ, _+_, _-_, _*_, _/_, _≤_, _<_}
 use native.Mathlib.Omega.{arith}
 use lib.Dec.{T, leb, leb→le, nleb→lt}
 use lib.IntN.{ℤ, pos, _+ℤ_, _-ℤ_, _*ℤ_}
 use lib.ListN.{length, getD}
 use lib.Seq.{ext-getD}
 use Rattle.ints.proofs.Ring.{ring, quotes}
-use Rattle.ints.proofs.Order.{eq-fact, eq-goal}
+use Rattle.ints.proofs.Order.{eq-fact, eq-goal, pos-inj}
 use Rattle.ints.proofs.Tables.{getD-tabulate}
-use Rattle.block.specs.Cells.{cell}
+use Rattle.ints.specs.Cells.{cell}
 use Rattle.fourier.specs.declared.Doubled.{Doubled}
-use Rattle.fourier.specs.declared.Doubled.the-variants.{Real, Imaginary, Power}
-use Rattle.fourier.specs.Parts.{H, doubledLine, doubledLines}
+use Rattle.fourier.specs.declared.Doubled.the-variants.{Real, Imaginary}
+use Rattle.fourier.specs.Parts.{H, doubledLine, doubledLines, power, square}
 use Rattle.fourier.proofs.Lines.{line-at}
+use Rattle.fourier.proofs.Powers.{squares-are}
 
 -- ---- one line
 
@@ -32,9 +33,15 @@ mirror-from-parts xs v = go (H xs v) (H xs (length xs - v))
     go : (h m : ℤ) → h +ℤ m +ℤ (m -ℤ h) ≡ pos 2 *ℤ m
     go h m = ring (h ∷ m ∷ []) (search quotes depth 20) tt
 
-pub power-from-parts : (xs : List ℤ) (v : ℕ) → doubledLine Real xs v *ℤ doubledLine Real xs v +ℤ doubledLine Imaginary xs v *ℤ doubledLine Imaginary xs v ≡ pos 2 *ℤ doubledLine Power xs v
-power-from-parts xs v = go (H xs v) (H xs (length xs - v))
+pub power-from-parts : (xs : List ℤ) (v : ℕ) → square (doubledLine Real xs v) + square (doubledLine Imaginary xs v) ≡ 2 * power xs v
+power-from-parts xs v = pos-inj (sym (squares-are (h +ℤ m) (m -ℤ h)) ∙ go h m ∙ ap (λ (z : ℤ). pos 2 *ℤ z) (squares-are h m))
   where
+    h : ℤ
+    h = H xs v
+
+    m : ℤ
+    m = H xs (length xs - v)
+
     go : (h m : ℤ) → (h +ℤ m) *ℤ (h +ℤ m) +ℤ (m -ℤ h) *ℤ (m -ℤ h) ≡ pos 2 *ℤ (h *ℤ h +ℤ m *ℤ m)
     go h m = ring (h ∷ m ∷ []) (search quotes depth 20) tt
 

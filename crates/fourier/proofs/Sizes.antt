@@ -7,7 +7,7 @@ use mir.Syntax.{w64}
 use mir.Val.{SFits}
 use Rattle.ints.proofs.Abs.{abs-plus, abs-minus, abs-times}
 use Rattle.ints.proofs.Fit.{fits}
-use Rattle.block.specs.Cells.{LOUDEST-LINE}
+use Rattle.kind.specs.Loudness.{LOUDEST-LINE}
 
 pub line-fits : (x : ℤ) → natAbs x ≤ LOUDEST-LINE → SFits w64 x
 line-fits x h = fits x (omega arith)

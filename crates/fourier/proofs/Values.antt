@@ -9,13 +9,13 @@ use borrow.Author.Tests.{eqb-true}
 use lib.Dec.{eqb}
 use lib.IntN.{ℤ, natAbs}
 use lib.ListN.{length}
-use Rattle.refusal.specs.declared.Line.{Line}
-use Rattle.block.specs.Accepted.{Accepted}
+use Rattle.kind.specs.declared.Line.{Line}
+use Rattle.block.specs.Transformable.{Transformable}
 use Rattle.fourier.specs.declared.ScaledLine.{ScaledLine}
 use Rattle.fourier.specs.declared.ScaledLine.the-variants.{Mean, Last, Pair}
 use Rattle.fourier.specs.Parts.{H}
 use Rattle.fourier.specs.Scaled.{Exactly, quotient, scaledParts, scaledLine, scaledNumbers, Values}
-use Rattle.fourier.specs.Workers.{PowerOfTwo}
+use Rattle.fourier.specs.Inner.{PowerOfTwo}
 use Rattle.fourier.proofs.Exact.{exactly}
 use Rattle.fourier.proofs.Sizes.{sum-size, difference-size}
 use Rattle.fourier.proofs.Lines.{power-of-two}
@@ -41,7 +41,7 @@ no-numbers xs v = scaled-cases (λ r. scaledNumbers r ≡ []) xs v (λ e. refl) 
 
 -- ---- its values
 
-module _ {P : ℕ} {xs : List ℤ} (a : Accepted P xs) where
+module _ {P : ℕ} {xs : List ℤ} (a : Transformable P xs) where
   line-exact : (v : ℕ) → Exactly (H xs v) (length xs) (quotient (H xs v) (length xs))
   line-exact v = exactly (H xs v) (length xs) (omega (arith, a .quiet (v % length xs))) (power-of-two a 53 (omega arith))
 

@@ -1,3 +1,3 @@
 pub mod Parts
 pub mod Scaled
-pub mod Workers
+pub mod Inner

@@ -9,9 +9,9 @@ use lib.Ieee.{Float, fin, binary64, ofInt, mul, round}
 use lib.Ieee.Exact.{HasValue}
 use lib.IntN.{ℤ, pos, negsuc, natAbs}
 use lib.ListN.{length}
-use Rattle.refusal.specs.declared.KindAnswer.{KindAnswer}
-use Rattle.refusal.specs.declared.KindAnswer.the-variants.{Taken, Refused as Untaken}
-use Rattle.refusal.specs.declared.Line.{Line}
+use Rattle.block.specs.declared.BlockVerdict.{BlockVerdict}
+use Rattle.block.specs.declared.BlockVerdict.the-variants.{Taken, Refused as BlockRefused}
+use Rattle.kind.specs.declared.Line.{Line}
 use Rattle.refusal.specs.RefusalTable.{number, place}
 use Rattle.fourier.specs.declared.Doubled.the-variants.{Real, Imaginary}
 use Rattle.fourier.specs.declared.Pair.{Pair as RealAndImaginary}
@@ -51,9 +51,9 @@ scaledLine xs v = let N = length xs in
     (Pair (scaledParts xs v)))
 
 -- what is answered for a line, by what the tests say
-abbrev pub scaledTo : List ℤ → Line → KindAnswer → ScaledLine
+abbrev pub scaledTo : List ℤ → Line → BlockVerdict → ScaledLine
 scaledTo xs line (Taken kind) = scaledLine xs (line .0)
-scaledTo xs line (Untaken refusal) = Refused refusal
+scaledTo xs line (BlockRefused refusal) = Refused refusal
 
 -- document 01's number and place for each case of an answer, nothing where there is a line
 abbrev pub scaledNumbers : ScaledLine → List ℕ

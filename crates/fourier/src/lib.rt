@@ -1,25 +1,24 @@
 // The Fourier parts, the power and the scaled lines of a lent Hartley spectrum (document 01, Levels).
 use block::Answer;
-use refusal::KindAnswer;
-use refusal::Line;
+use block::BlockVerdict;
+use kind::Line;
 use refusal::Refusal;
 ghost use mathlib.Core.Path.{_≡_};
 ghost use Prim.Native.Nat.{ℕ, _+_, _/_, _^_, _≤_, _<_};
-ghost use lib.IntN.{natAbs};
+ghost use lib.IntN.{natAbs, pos};
 ghost use lib.ListN.{length};
-ghost use Rattle.block.specs.Cells.{LOUDEST-LINE};
+ghost use Rattle.kind.specs.Loudness.{LOUDEST-LINE};
 ghost use Rattle.block.specs.Tests.{testedLine};
-ghost use Rattle.block.specs.Accepted.{Accepted};
-ghost use Rattle.block.specs.Answers.{answerTo, firstFault, numbers};
-ghost use Rattle.fourier.specs.Parts.{formula, doubledLines, imaginaryLeft, powersLeft, realLeft, testedParts, testedPower};
+ghost use Rattle.block.specs.Transformable.{Transformable};
+ghost use Rattle.block.specs.BlockAnswers.{blockAnswer, verdictNumbers, answerNumbers};
+ghost use Rattle.fourier.specs.Parts.{doubledLines, formula, imaginaryLeft, inCells, powers, powersLeft, realLeft, square, testedParts, testedPower};
 ghost use Rattle.fourier.specs.Scaled.{Exactly, quotient, scaledLine, scaledNumbers, scaledTo, Values};
-ghost use Rattle.fourier.specs.Workers.{PowerOfTwo, scaledPair};
+ghost use Rattle.fourier.specs.Inner.{PowerOfTwo, scaledPair};
 
-// The three doubled values of a line.
+// The two doubled parts of a line.
 pub enum Doubled {
     Real,
     Imaginary,
-    Power,
 }
 
 // The real and the imaginary part of a scaled line.
@@ -38,14 +37,14 @@ pub enum ScaledLine {
 
 // The doubled real and imaginary parts of a spectrum, for lines 0 to N/2, in two lent lists.
 pub fn parts(spectrum: &[i64], real: &mut [i64], imaginary: &mut [i64]) -> Answer
-    ensures answer { λ r. ⌜ r ≡ answerTo (testedParts (now (spectrum .entry)) (now (real .entry)) (now (imaginary .entry))) ⌝ }
-    ensures numbers { λ r. ⌜ numbers r ≡ firstFault (testedParts (now (spectrum .entry)) (now (real .entry)) (now (imaginary .entry))) ⌝ }
+    ensures answer { λ r. ⌜ r ≡ blockAnswer (testedParts (now (spectrum .entry)) (now (real .entry)) (now (imaginary .entry))) ⌝ }
+    ensures numbers { λ r. ⌜ answerNumbers r ≡ verdictNumbers (testedParts (now (spectrum .entry)) (now (real .entry)) (now (imaginary .entry))) ⌝ }
     ensures real { λ _. ⌜ now (real .exit) ≡ realLeft (now (spectrum .entry)) (now (real .entry)) (now (imaginary .entry)) ⌝ }
     ensures imaginary { λ _. ⌜ now (imaginary .exit) ≡ imaginaryLeft (now (spectrum .entry)) (now (real .entry)) (now (imaginary .entry)) ⌝ }
 {
-    match block::tested_spectrum(spectrum, &[real.len(), imaginary.len()]) {
-        KindAnswer::Refused(refusal) => Answer::Refused(refusal),
-        KindAnswer::Taken(_) => {
+    match block::tested_spectrum(&[real.len(), imaginary.len()], spectrum) {
+        BlockVerdict::Refused(refusal) => Answer::Refused(refusal),
+        BlockVerdict::Taken(_) => {
             fill(spectrum, real, Doubled::Real);
             fill(spectrum, imaginary, Doubled::Imaginary);
             Answer::Done
@@ -55,14 +54,14 @@ pub fn parts(spectrum: &[i64], real: &mut [i64], imaginary: &mut [i64]) -> Answe
 
 // The doubled power of a spectrum, for lines 0 to N/2, in a lent list.
 pub fn power(spectrum: &[i64], powers: &mut [i64]) -> Answer
-    ensures answer { λ r. ⌜ r ≡ answerTo (testedPower (now (spectrum .entry)) (now (powers .entry))) ⌝ }
-    ensures numbers { λ r. ⌜ numbers r ≡ firstFault (testedPower (now (spectrum .entry)) (now (powers .entry))) ⌝ }
+    ensures answer { λ r. ⌜ r ≡ blockAnswer (testedPower (now (spectrum .entry)) (now (powers .entry))) ⌝ }
+    ensures numbers { λ r. ⌜ answerNumbers r ≡ verdictNumbers (testedPower (now (spectrum .entry)) (now (powers .entry))) ⌝ }
     ensures powers { λ _. ⌜ now (powers .exit) ≡ powersLeft (now (spectrum .entry)) (now (powers .entry)) ⌝ }
 {
-    match block::tested_spectrum(spectrum, &[powers.len()]) {
-        KindAnswer::Refused(refusal) => Answer::Refused(refusal),
-        KindAnswer::Taken(_) => {
-            fill(spectrum, powers, Doubled::Power);
+    match block::tested_spectrum(&[powers.len()], spectrum) {
+        BlockVerdict::Refused(refusal) => Answer::Refused(refusal),
+        BlockVerdict::Taken(_) => {
+            fill_powers(spectrum, powers);
             Answer::Done
         }
     }
@@ -71,18 +70,18 @@ pub fn power(spectrum: &[i64], powers: &mut [i64]) -> Answer
 // A line of a spectrum, scaled.
 pub fn scaled(spectrum: &[i64], line: Line) -> ScaledLine
     ensures answer { λ r. ⌜ r ≡ scaledTo (now (spectrum .entry)) line (testedLine line (now (spectrum .entry))) ⌝ }
-    ensures numbers { λ r. ⌜ scaledNumbers r ≡ firstFault (testedLine line (now (spectrum .entry))) ⌝ }
+    ensures numbers { λ r. ⌜ scaledNumbers r ≡ verdictNumbers (testedLine line (now (spectrum .entry))) ⌝ }
     ensures values { λ r. ⌜ Values (now (spectrum .entry)) line r ⌝ }
 {
-    match block::tested_line(spectrum, line) {
-        KindAnswer::Refused(refusal) => ScaledLine::Refused(refusal),
-        KindAnswer::Taken(_) => scaled_line(spectrum, line),
+    match block::tested_line(line, spectrum) {
+        BlockVerdict::Refused(refusal) => ScaledLine::Refused(refusal),
+        BlockVerdict::Taken(_) => scaled_line(spectrum, line),
     }
 }
 
-// Fills the list with one of the three for lines 0 to N/2. The mirror of line 0 is line 0, that of line v is line N - v.
+// Fills the list with one of the two parts for lines 0 to N/2. The mirror of line 0 is line 0, that of line v is line N - v.
 fn fill(spectrum: &[i64], lines: &mut [i64], which: Doubled)
-    requires { ⌜ ((P : ℕ) × Accepted P (now spectrum)) × (length (now lines) ≡ length (now spectrum) / 2 + 1) ⌝ }
+    requires { ⌜ ((P : ℕ) × Transformable P (now spectrum)) × (length (now lines) ≡ length (now spectrum) / 2 + 1) ⌝ }
     ensures { λ _. ⌜ now (lines .exit) ≡ doubledLines which (now (spectrum .entry)) ⌝ }
 {
     let mut v = 0;
@@ -94,7 +93,7 @@ fn fill(spectrum: &[i64], lines: &mut [i64], which: Doubled)
     }
 }
 
-// One of the three for line v; h is H(v) and m is H(N - v).
+// One of the two parts of line v; h is H(v) and m is H(N - v).
 fn formula(which: Doubled, h: i64, m: i64) -> i64
     requires { ⌜ (natAbs h ≤ LOUDEST-LINE) × (natAbs m ≤ LOUDEST-LINE) ⌝ }
     ensures { λ r. ⌜ r ≡ formula which h m ⌝ }
@@ -102,13 +101,34 @@ fn formula(which: Doubled, h: i64, m: i64) -> i64
     match which {
         Doubled::Real => h + m,
         Doubled::Imaginary => m - h,
-        Doubled::Power => h * h + m * m,
     }
+}
+
+// Fills the cells with the doubled powers of lines 0 to N/2.
+fn fill_powers(spectrum: &[i64], cells: &mut [i64])
+    requires { ⌜ ((P : ℕ) × Transformable P (now spectrum)) × (length (now cells) ≡ length (now spectrum) / 2 + 1) ⌝ }
+    ensures { λ _. ⌜ now (cells .exit) ≡ inCells (powers (now (spectrum .entry))) ⌝ }
+{
+    let mut v = 0;
+    let mut mirror = 0;
+    while v < cells.len() {
+        cells[v] = power_of(spectrum[v], spectrum[mirror]);
+        v += 1;
+        mirror = spectrum.len() - v;
+    }
+}
+
+// The doubled power of line v; h is H(v) and m is H(N - v).
+fn power_of(h: i64, m: i64) -> i64
+    requires { ⌜ (natAbs h ≤ LOUDEST-LINE) × (natAbs m ≤ LOUDEST-LINE) ⌝ }
+    ensures { λ r. ⌜ r ≡ pos (square h + square m) ⌝ }
+{
+    h * h + m * m
 }
 
 // A line that the spectrum has, scaled.
 fn scaled_line(spectrum: &[i64], line: Line) -> ScaledLine
-    requires { ⌜ ((P : ℕ) × Accepted P (now spectrum)) × (line .0 ≤ length (now spectrum) / 2) ⌝ }
+    requires { ⌜ ((P : ℕ) × Transformable P (now spectrum)) × (line .0 ≤ length (now spectrum) / 2) ⌝ }
     ensures { λ r. ⌜ r ≡ scaledLine (now (spectrum .entry)) (line .0) ⌝ }
 {
     let len = spectrum.len();
@@ -125,7 +145,7 @@ fn scaled_line(spectrum: &[i64], line: Line) -> ScaledLine
 // The real and the imaginary part of a line, each the doubled part over 2N; h is H(v), m is H(N - v), and len is N.
 fn scaled_pair(h: i64, m: i64, len: usize) -> Pair
     requires { ⌜ (natAbs h ≤ LOUDEST-LINE) × (natAbs m ≤ LOUDEST-LINE) × PowerOfTwo 10 len ⌝ }
-    ensures { λ r. ⌜ r ≡ scaledPair len h m ⌝ }
+    ensures { λ r. ⌜ r ≡ scaledPair h m len ⌝ }
 {
     Pair {
         real: quotient(formula(Doubled::Real, h, m), 2 * len),

@@ -4,25 +4,25 @@ use mathlib.Core.Path.{_≡_, refl, sym, _∙_, ap}
 use mathlib.Core.Bool.{Bool, true, false, not}
 use mathlib.Core.List.{List}
 use Prim.Native.Nat.{ℕ, zero, suc, _+_, _*_, _-_, _%_, _≤_, _<_}
-use native.Mathlib.Nat.{mul-le-mul-right}
+use native.Mathlib.Nat.{zero-mul, zero-add, mul-le-mul-right}
 use native.Mathlib.Omega.{arith}
 use borrow.Author.Count.{below-more}
 use lib.Dec.{T, ltb, ltb→lt, nltb→le}
 use lib.IntN.{ℤ, pos, negℤ, natAbs, _+ℤ_, _*ℤ_}
 use lib.ListN.{length, getD, set, length-set}
 use lib.Seq.{getD-set-same, getD-set-other}
-use Rattle.ints.proofs.Mirror.{mirror-in}
+use Rattle.ints.proofs.Mirror.{mirror-first, mirror-later, mirror-in}
 use Rattle.ints.proofs.Tables.{getD-tabulate, length-tabulate}
 use Rattle.ints.proofs.Filling.{Filled, filled-next, filled-still}
-use Rattle.refusal.specs.BlockKinds.{SCALE, SCALE-DIGITS}
+use Rattle.kind.specs.BlockKinds.{SCALE, SCALE-DIGITS}
 use Rattle.cosine.specs.Cosine.{quarterTable}
 use Rattle.cosine.proofs.Turn.{cosine-half, sine-half}
 use Rattle.cosine.proofs.TableNear.{table-cosine-size, table-sine-size, table-end}
-use Rattle.block.specs.Cells.{cell}
-use Rattle.spectrum.specs.Spectrum.{tableCosine, tableSine, lineAt}
-use Rattle.spectrum.proofs.Pairs.{first-half, second-half}
+use Rattle.ints.specs.Cells.{cell}
+use Rattle.spectrum.specs.Spectrum.{tableCosine, tableSine, lineAt, joinedAt}
+use Rattle.spectrum.proofs.Pairs.{first-half, second-half, in-pair}
 use Rattle.ints.specs.Quotient.{rounded}
-use Rattle.hartley.specs.Workers.{Joins}
+use Rattle.hartley.specs.Inner.{CanJoin}
 
 -- ---- where they lie
 
@@ -32,19 +32,26 @@ stride-some n (suc stride) apart e = omega arith
 
 pub record Places (n stride v mirror entry : ℕ) : Type 0 where
   pub below : v < n
-  pub mirrored : mirror < n
+  pub mirrored : mirror < 2 * n
   pub entry-in : entry < n * stride
   pub entry-on : entry + stride ≤ n * stride
 
-pub places : {n stride : ℕ} {cosines sines : List ℤ} → Joins n stride cosines sines → (v mirror entry : ℕ) → v < n → mirror ≡ (n - v) % n → entry ≡ v * stride →
+pub places : {n stride : ℕ} {cosines sines : List ℤ} → CanJoin n stride cosines sines → (v mirror entry : ℕ) → v < n → mirror ≡ n + (n - v) % n → entry ≡ v * stride →
     Places n stride v mirror entry
 places {n} {stride} J v mirror entry h m s =
     let on : entry + stride ≤ n * stride = omega (arith, mul-le-mul-right stride h) in
-    record { below = h; mirrored = mirror-in n v mirror (omega arith) m; entry-in = omega (arith, stride-some n stride (J .apart) (J .turn)); entry-on = on }
+    record { below = h; mirrored = omega (arith, mirror-in n v ((n - v) % n) (omega arith) refl); entry-in = omega (arith, stride-some n stride (J .apart) (J .turn)); entry-on = on }
+
+-- the mirror of line 0, and that of a line after it
+pub mirror-start : (n mirror : ℕ) → mirror ≡ n → mirror ≡ n + (n - 0) % n
+mirror-start n mirror e = omega (arith, mirror-first n 0 0 refl refl)
+
+pub mirror-next : (n v mirror : ℕ) → 0 < v → v ≤ n → mirror ≡ 2 * n - v → mirror ≡ n + (n - v) % n
+mirror-next n v mirror some h e = omega (arith, mirror-later n v (n - v) some h refl)
 
 -- ---- what they are
 
-module _ {n stride : ℕ} {cosines sines : List ℤ} (J : Joins n stride cosines sines) where
+module _ {n stride : ℕ} {cosines sines : List ℤ} (J : CanJoin n stride cosines sines) where
   pub cosines-many : length cosines ≡ n * stride
   cosines-many = ap length (J .at-cosines) ∙ length-tabulate (n * stride) _
 
@@ -63,9 +70,13 @@ module _ {n stride : ℕ} {cosines sines : List ℤ} (J : Joins n stride cosines
   pub sine-small : (k : ℕ) → k < n * stride → natAbs (cell sines k) ≤ SCALE
   sine-small k h = rw (sine-at k h) (table-sine-size SCALE-DIGITS (omega arith) _)
 
-  module _ (a b : ℕ → ℤ) (v mirror entry : ℕ) (p : Places n stride v mirror entry) (m : mirror ≡ (n - v) % n) (s : entry ≡ v * stride) where
+  -- x is the cells of a, and of b behind it
+  module _ (x : ℕ → ℤ) (v mirror entry : ℕ) (p : Places n stride v mirror entry) (m : mirror ≡ n + (n - v) % n) (s : entry ≡ v * stride) where
+    abbrev b : ℕ → ℤ
+    b j = x (n + j)
+
     abbrev sum : ℤ
-    sum = b v *ℤ cell cosines entry +ℤ b mirror *ℤ cell sines entry
+    sum = x (n + v) *ℤ cell cosines entry +ℤ x mirror *ℤ cell sines entry
 
     at-step : entry * J .apart ≡ v * (stride * J .apart)
     at-step = over (J .apart)
@@ -78,16 +89,22 @@ module _ {n stride : ℕ} {cosines sines : List ℤ} (J : Joins n stride cosines
         b v *ℤ tableCosine SCALE-DIGITS step +ℤ b ((n - v) % n) *ℤ tableSine SCALE-DIGITS step ≡ sum
     same-sum = rw (sym at-step, sym m, sym (cosine-at entry (p .entry-in)), sym (sine-at entry (p .entry-in))) refl
 
-    pub line-in-first-half : lineAt SCALE-DIGITS n a b v ≡ a v +ℤ rounded SCALE sum
-    line-in-first-half = first-half (rounded SCALE) (tableCosine SCALE-DIGITS) (tableSine SCALE-DIGITS) n (J .some) a b (stride * J .apart) (J .turn) v (p .below)
-        ∙ ap (λ (y : ℤ). a v +ℤ rounded SCALE y) same-sum
+    line-of-pair : (i : ℕ) → i < 2 * n → joinedAt SCALE-DIGITS n x i ≡ lineAt SCALE-DIGITS n x b i
+    line-of-pair i h = simp (zero-mul, zero-add) at (in-pair (rounded SCALE) (tableCosine SCALE-DIGITS) (tableSine SCALE-DIGITS) n (J .some) x 0 i h)
 
-    pub line-in-second-half : lineAt SCALE-DIGITS n a b (n + v) ≡ a v +ℤ rounded SCALE (negℤ sum)
-    line-in-second-half = second-half (rounded SCALE) (tableCosine SCALE-DIGITS) (tableSine SCALE-DIGITS) n (J .some) a b (stride * J .apart) (J .turn) v (p .below)
-        (cosine-half (quarterTable SCALE-DIGITS) end) (sine-half (quarterTable SCALE-DIGITS) end) ∙ ap (λ (y : ℤ). a v +ℤ rounded SCALE (negℤ y)) same-sum
-      where
-        end : quarterTable SCALE-DIGITS 256 ≡ 0
-        end = table-end SCALE-DIGITS (omega arith)
+    module _ (z : ℤ) (e : z ≡ sum) where
+      pub line-in-first-half : joinedAt SCALE-DIGITS n x v ≡ x v +ℤ rounded SCALE z
+      line-in-first-half = line-of-pair v (omega (arith, p .below))
+          ∙ first-half (rounded SCALE) (tableCosine SCALE-DIGITS) (tableSine SCALE-DIGITS) n (J .some) x b (stride * J .apart) (J .turn) v (p .below)
+          ∙ ap (λ (y : ℤ). x v +ℤ rounded SCALE y) (same-sum ∙ sym e)
+
+      pub line-in-second-half : joinedAt SCALE-DIGITS n x (n + v) ≡ x v +ℤ rounded SCALE (negℤ z)
+      line-in-second-half = line-of-pair (n + v) (omega (arith, p .below))
+          ∙ second-half (rounded SCALE) (tableCosine SCALE-DIGITS) (tableSine SCALE-DIGITS) n (J .some) x b (stride * J .apart) (J .turn) v (p .below)
+          (cosine-half (quarterTable SCALE-DIGITS) end) (sine-half (quarterTable SCALE-DIGITS) end) ∙ ap (λ (y : ℤ). x v +ℤ rounded SCALE (negℤ y)) (same-sum ∙ sym e)
+        where
+          end : quarterTable SCALE-DIGITS 256 ≡ 0
+          end = table-end SCALE-DIGITS (omega arith)
 
 -- ---- how they fill the cells
 

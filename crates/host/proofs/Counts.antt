@@ -11,20 +11,20 @@ use borrow.Author.Tests.{eq-eqb, ne-eqb, eqb-true, eqb-false, leb-false}
 use lib.Dec.{eqb, leb}
 use lib.IntN.{ℤ, pos}
 use lib.ListN.{length, getD, take, drop}
-use Rattle.ints.proofs.Parts.{length-part}
-use Rattle.refusal.specs.declared.BlockKind.{BlockKind}
-use Rattle.refusal.specs.declared.KindAnswer.the-variants.{Taken, Refused}
+use Rattle.ints.proofs.Slices.{length-part}
+use Rattle.kind.specs.declared.BlockKind.{BlockKind}
+use Rattle.block.specs.declared.BlockVerdict.the-variants.{Taken, Refused}
 use Rattle.refusal.specs.declared.Refusal.the-variants.{Length, Misfit}
-use Rattle.refusal.specs.BlockKinds.{LARGEST}
-use Rattle.refusal.proofs.Lengths.{Kind-length, kind-given}
+use Rattle.kind.specs.BlockKinds.{LARGEST}
+use Rattle.kind.proofs.Lengths.{Kind-length, kind-given}
 use Rattle.block.specs.Tests.{misfit, tested}
 use Rattle.block.proofs.Taken.{taken-kind, taken-fits, output-fits}
 use Rattle.block.proofs.Refused.{kind-least, kind-largest, tested-length, tested-outputs}
-use Rattle.bytes.specs.Reading.{Within, signeds}
-use Rattle.bytes.specs.Spelling.{spelledSigneds}
-use Rattle.bytes.proofs.Signed.{length-signeds, length-spelled-signeds, signeds-spelled}
+use Rattle.little_endian.specs.Reading.{Within, signeds}
+use Rattle.little_endian.specs.Spelling.{spelledSigneds}
+use Rattle.little_endian.proofs.Signed.{length-signeds, length-spelled-signeds, signeds-spelled}
 use Rattle.host.specs.CellBytes.{CELL, cellsIn}
-use Rattle.host.specs.Workers.{cellCount}
+use Rattle.host.specs.Inner.{cellCount}
 
 -- ---- how many cells are read
 

@@ -1,4 +1,4 @@
 pub mod Packing
 pub mod Counts
 pub mod Calls
-pub mod Left
+pub mod ForwardBytes

@@ -1,24 +1,26 @@
 -- Unpacking an answer gives back what was packed, since each part stays within its bytes.
--- Example: `block-unpacked k : blockNumbers (packed (answerTo k)) ≡ firstFault k`.
+-- Example: `block-unpacked k : unpackedBlock (packed (blockAnswer k)) ≡ verdictNumbers k`.
 use mathlib.Core.Path.{_≡_, refl}
 use mathlib.Core.Bool.{false}
 use Prim.Native.Nat.{ℕ, _+_, _*_, _/_, _%_, _^_, _≤_, _<_}
 use native.Mathlib.Omega.{arith}
 use borrow.Author.Tests.{eq-eqb, ne-eqb}
 use lib.Dec.{eqb}
-use Rattle.refusal.specs.declared.KindAnswer.{KindAnswer}
-use Rattle.refusal.specs.declared.KindAnswer.the-variants.{Taken, Refused}
+use Rattle.little_endian.specs.Reading.{unsigned}
+use Rattle.little_endian.specs.Spelling.{spelled}
+use Rattle.block.specs.declared.BlockVerdict.{BlockVerdict}
+use Rattle.block.specs.declared.BlockVerdict.the-variants.{Taken, Refused as BlockRefused}
 use Rattle.refusal.specs.declared.Refusal.{Refusal}
 use Rattle.refusal.specs.declared.Refusal.the-variants.{Length, Misfit, Loud, Line, Long, Cut, Kind, Order, Size, Head, Absent}
 use Rattle.refusal.specs.RefusalTable.{number, place}
-use Rattle.block.specs.Answers.{answerTo, firstFault}
+use Rattle.block.specs.BlockAnswers.{blockAnswer, verdictNumbers}
 use Rattle.block.specs.declared.Answer.{Answer}
-use Rattle.block.specs.declared.Answer.the-variants.{Done, Refused as RefusedBy}
-use Rattle.trace.specs.declared.Head.{Head as TraceHead}
+use Rattle.block.specs.declared.Answer.the-variants.{Done, Refused}
+use Rattle.record.specs.declared.Head.{Head as TraceHead}
 use Rattle.trace.specs.declared.TraceAnswer.{TraceAnswer}
-use Rattle.trace.specs.declared.TraceAnswer.the-variants.{Accepted, Refused as Unaccepted}
-use Rattle.trace.specs.Answers.{numbers}
-use Rattle.host.specs.Packing.{packedRefusal, packed, packedTrace, numberIn, placeIn, rateIn, blockNumbers, traceNumbers}
+use Rattle.trace.specs.declared.TraceAnswer.the-variants.{Accepted, Refused as TraceRefused}
+use Rattle.trace.specs.TraceAnswers.{traceAnswerNumbers}
+use Rattle.host.specs.Packing.{numberIn, packed, packedRefusal, packedTrace, placeIn, rateIn, unpackedBlock, unpackedTrace}
 
 -- ---- a refusal
 
@@ -53,28 +55,36 @@ module _ (refusal : Refusal) where
 pub nothing-refused : (answer : Answer) → packed answer ≡ 0 → answer ≡ Done
 unfolding packedRefusal
 nothing-refused Done e = refl
-nothing-refused (RefusedBy refusal) e = absurd (omega (arith, number-fits refusal .0))
+nothing-refused (Refused refusal) e = absurd (omega (arith, number-fits refusal .0))
 
-pub block-unpacked : (k : KindAnswer) → blockNumbers (packed (answerTo k)) ≡ firstFault k
-unfolding blockNumbers
+pub block-unpacked : (k : BlockVerdict) → unpackedBlock (packed (blockAnswer k)) ≡ verdictNumbers k
+unfolding unpackedBlock
 block-unpacked (Taken kind) = refl
-block-unpacked (Refused refusal) = rw (refused-at-all refusal, number-back refusal, place-back refusal) refl
+block-unpacked (BlockRefused refusal) = rw (refused-at-all refusal, number-back refusal, place-back refusal) refl
 
 -- ---- a check
 
-module _ (head : TraceHead) (blocks : ℕ) (p : head .p < 256) (b : blocks < 256 ^ 2) where
-  accepted-unpacked : traceNumbers (packedTrace (Accepted head blocks)) ≡ numbers (Accepted head blocks)
-  unfolding traceNumbers
-  accepted-unpacked = let a = packedTrace (Accepted head blocks) in
+-- every number of an accepted trace fits its bytes
+abbrev pub Fitting : TraceHead → ℕ → Type 0
+Fitting head blocks = (head .rate < 256 ^ 4) × (head .p ≤ 10) × (blocks < 256 ^ 2)
+
+module _ (head : TraceHead) (blocks : ℕ) (f : Fitting head blocks) where
+  pub accepted-packed : packedTrace (Accepted head blocks) ≡ 256 * (head .p + 256 * (blocks + 256 ^ 2 * head .rate))
+  unfolding unsigned spelled
+  accepted-packed = omega arith
+
+  accepted-unpacked : unpackedTrace (packedTrace (Accepted head blocks)) ≡ traceAnswerNumbers (Accepted head blocks)
+  unfolding unpackedTrace
+  accepted-unpacked = let a = 256 * (head .p + 256 * (blocks + 256 ^ 2 * head .rate)) in
       let none : numberIn a ≡ 0 = omega arith in
       let rate : rateIn a ≡ head .rate = omega arith in
       let after-1 : a / 256 ≡ head .p + 256 * (blocks + 256 ^ 2 * head .rate) = omega arith in
       let after-2 : a / 256 ^ 2 ≡ blocks + 256 ^ 2 * head .rate = omega arith in
       let exponent : (head .p + 256 * (blocks + 256 ^ 2 * head .rate)) % 256 ≡ head .p = omega arith in
       let count : (blocks + 256 ^ 2 * head .rate) % 256 ^ 2 ≡ blocks = omega arith in
-      rw (eq-eqb (numberIn a) 0 none, rate, after-1, exponent, after-2, count) refl
+      rw (accepted-packed, eq-eqb (numberIn a) 0 none, rate, after-1, exponent, after-2, count) refl
 
-pub trace-unpacked : (answer : TraceAnswer) → ((head : TraceHead) (blocks : ℕ) → Accepted head blocks ≡ answer → (head .p < 256) × (blocks < 256 ^ 2)) → traceNumbers (packedTrace answer) ≡ numbers answer
-unfolding traceNumbers
-trace-unpacked (Accepted head blocks) h = let s = h head blocks refl in accepted-unpacked head blocks (s .0) (s .1)
-trace-unpacked (Unaccepted refusal) h = rw (refused-at-all refusal, number-back refusal, place-back refusal) refl
+pub trace-unpacked : (answer : TraceAnswer) → ((head : TraceHead) (blocks : ℕ) → Accepted head blocks ≡ answer → Fitting head blocks) → unpackedTrace (packedTrace answer) ≡ traceAnswerNumbers answer
+unfolding unpackedTrace
+trace-unpacked (Accepted head blocks) h = accepted-unpacked head blocks (h head blocks refl)
+trace-unpacked (TraceRefused refusal) h = rw (refused-at-all refusal, number-back refusal, place-back refusal) refl

@@ -5,10 +5,10 @@ use Prim.Native.Nat.{ℕ, _/_, _%_}
 use lib.Dec.{eqb}
 use lib.IntN.{ℤ}
 use lib.ListN.{length}
-use Rattle.refusal.specs.declared.KindAnswer.{KindAnswer}
-use Rattle.refusal.specs.declared.KindAnswer.the-variants.{Taken, Refused}
-use Rattle.bytes.specs.Reading.{signeds}
-use Rattle.bytes.specs.Spelling.{spelledSigneds}
+use Rattle.block.specs.declared.BlockVerdict.{BlockVerdict}
+use Rattle.block.specs.declared.BlockVerdict.the-variants.{Taken, Refused}
+use Rattle.little_endian.specs.Reading.{signeds}
+use Rattle.little_endian.specs.Spelling.{spelledSigneds}
 
 -- the bytes of a cell
 abbrev pub CELL : ℕ
@@ -20,7 +20,7 @@ unfoldable pub cellsIn : List ℕ → List ℤ
 unfolding signeds
 cellsIn bytes = cond (eqb (length bytes % CELL) 0) (signeds CELL (length bytes / CELL) bytes) []
 
--- the bytes that a call leaves: those of its result, which may depend on P, or the lent bytes where it refuses
-abbrev pub bytesLeft : (ℕ → List ℤ) → List ℕ → KindAnswer → List ℕ
-bytesLeft result lent (Taken kind) = spelledSigneds CELL (result (kind .p))
-bytesLeft result lent (Refused refusal) = lent
+-- the bytes that a call leaves: those of the cells that it leaves, or the lent bytes where it refuses
+abbrev pub bytesLeft : BlockVerdict → List ℤ → List ℕ → List ℕ
+bytesLeft (Taken kind) cells lent = spelledSigneds CELL cells
+bytesLeft (Refused refusal) cells lent = lent

@@ -1,3 +1,4 @@
 pub mod CellBytes
+pub mod EntryBytes
 pub mod Packing
-pub mod Workers
+pub mod Inner

@@ -1,15 +1,17 @@
 -- What the plain number means that answers a host in C. In eight bytes, least byte first: a refusal is its number in one byte and its place in seven; an
 -- accepted trace is 0 in one byte, P in one, the number of blocks in two and the rate in four; and a call on a block that is done is 0.
 use mathlib.Core.Bool.{cond}
-use mathlib.Core.List.{List, [], _∷_}
+use mathlib.Core.List.{List, [], _∷_, _++_}
 use Prim.Native.Nat.{ℕ, _+_, _*_, _/_, _%_, _^_}
 use lib.Dec.{eqb}
 use Rattle.refusal.specs.declared.Refusal.{Refusal}
 use Rattle.refusal.specs.RefusalTable.{number, place}
+use Rattle.little_endian.specs.Reading.{unsigned}
+use Rattle.little_endian.specs.Spelling.{spelled}
 use Rattle.block.specs.declared.Answer.{Answer}
 use Rattle.block.specs.declared.Answer.the-variants.{Done, Refused}
 use Rattle.trace.specs.declared.TraceAnswer.{TraceAnswer}
-use Rattle.trace.specs.declared.TraceAnswer.the-variants.{Accepted, Refused as Unaccepted}
+use Rattle.trace.specs.declared.TraceAnswer.the-variants.{Accepted, Refused as TraceRefused}
 
 -- ---- packed
 
@@ -21,8 +23,8 @@ packed Done = 0
 packed (Refused refusal) = packedRefusal refusal
 
 abbrev pub packedTrace : TraceAnswer → ℕ
-packedTrace (Accepted head blocks) = 256 * (head .p + 256 * (blocks + 256 ^ 2 * head .rate))
-packedTrace (Unaccepted refusal) = packedRefusal refusal
+packedTrace (Accepted head blocks) = unsigned (spelled 1 0 ++ spelled 1 (head .p) ++ spelled 2 blocks ++ spelled 4 (head .rate))
+packedTrace (TraceRefused refusal) = packedRefusal refusal
 
 -- ---- and unpacked
 
@@ -42,8 +44,8 @@ abbrev pub rateIn : ℕ → ℕ
 rateIn answer = answer / 256 ^ 4
 
 -- document 01's numbers in the answer of a call on a block (nothing where it is done), and of a check
-unfoldable pub blockNumbers : ℕ → List ℕ
-blockNumbers answer = cond (eqb (numberIn answer) 0) [] (numberIn answer ∷ placeIn answer ∷ [])
+unfoldable pub unpackedBlock : ℕ → List ℕ
+unpackedBlock answer = cond (eqb (numberIn answer) 0) [] (numberIn answer ∷ placeIn answer ∷ [])
 
-unfoldable pub traceNumbers : ℕ → List ℕ
-traceNumbers answer = cond (eqb (numberIn answer) 0) (rateIn answer ∷ pIn answer ∷ blocksIn answer ∷ []) (numberIn answer ∷ placeIn answer ∷ [])
+unfoldable pub unpackedTrace : ℕ → List ℕ
+unpackedTrace answer = cond (eqb (numberIn answer) 0) (rateIn answer ∷ pIn answer ∷ blocksIn answer ∷ []) (numberIn answer ∷ placeIn answer ∷ [])

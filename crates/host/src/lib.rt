@@ -1,32 +1,29 @@
 // Entries for hosts in C: the engine and the trace check on byte slices, each with one plain number for an answer (document 01, Parts of the engine).
 use block::Answer;
-use refusal::BlockKind;
+use kind::BlockKind;
+use record::Head;
 use refusal::Refusal;
-use trace::Head;
 use trace::TraceAnswer;
 ghost use mathlib.Core.Path.{_≡_};
 ghost use mathlib.Core.List.{[]};
-ghost use Prim.Native.Nat.{ℕ, _+_, _*_, _/_, _^_, _≤_, _<_};
+ghost use Prim.Native.Nat.{_+_, _*_, _/_, _^_, _≤_, _<_};
 ghost use lib.ListN.{length};
-ghost use Rattle.ints.specs.Sum.{sum};
 ghost use Rattle.refusal.specs.RefusalTable.{place};
-ghost use Rattle.refusal.specs.BlockKinds.{LARGEST};
-ghost use Rattle.bytes.specs.Reading.{signeds, unsigned};
-ghost use Rattle.bytes.specs.Spelling.{spelled, spelledSigneds};
-ghost use Rattle.block.specs.Cells.{cell};
+ghost use Rattle.kind.specs.BlockKinds.{LARGEST};
+ghost use Rattle.little_endian.specs.Reading.{signeds, unsigned};
+ghost use Rattle.little_endian.specs.Spelling.{spelled, spelledSigneds};
 ghost use Rattle.block.specs.Tests.{testedSamples, testedSpectrum};
-ghost use Rattle.block.specs.Answers.{answerTo, firstFault};
+ghost use Rattle.block.specs.BlockAnswers.{blockAnswer, verdictNumbers};
 ghost use Rattle.block.specs.declared.Answer.the-variants.{Done};
-ghost use Rattle.spectrum.specs.Spectrum.{forward, backward};
-ghost use Rattle.spectrum.specs.Distance.{WithinE};
-ghost use Rattle.fourier.specs.declared.Doubled.the-variants.{Power};
-ghost use Rattle.fourier.specs.Parts.{doubledLines, testedPower};
+ghost use Rattle.hartley.specs.Promises.{FirstLineExact, NearDirectSum};
+ghost use Rattle.fourier.specs.Parts.{testedPower};
 ghost use Rattle.trace.specs.Contents.{LONGEST, contents};
-ghost use Rattle.trace.specs.Answers.{told, answerTo as answerToTrace};
+ghost use Rattle.trace.specs.TraceAnswers.{contentsNumbers, traceAnswer};
 ghost use Rattle.trace.specs.declared.TraceAnswer.the-variants.{Accepted};
-ghost use Rattle.host.specs.CellBytes.{CELL, bytesLeft, cellsIn};
-ghost use Rattle.host.specs.Packing.{blockNumbers, blocksIn, numberIn, pIn, packed, packedRefusal, packedTrace, placeIn, rateIn, traceNumbers};
-ghost use Rattle.host.specs.Workers.{Answered, Packable, cellCount, leftBy};
+ghost use Rattle.host.specs.CellBytes.{CELL, cellsIn};
+ghost use Rattle.host.specs.EntryBytes.{backwardBytes, forwardBytes, powerBytes};
+ghost use Rattle.host.specs.Packing.{blocksIn, numberIn, pIn, packed, packedRefusal, packedTrace, placeIn, rateIn, unpackedBlock, unpackedTrace};
+ghost use Rattle.host.specs.Inner.{Answered, Packable, cellCount, leftBy};
 
 // The bytes of a cell.
 const CELL: usize = 8;
@@ -40,13 +37,13 @@ const LINES: usize = BlockKind::LARGEST / 2 + 1;
 // The forward spectrum of the block that the bytes spell, in its place.
 #[no_mangle]
 pub extern "C" fn hartley_forward(cells: &mut [u8]) -> u64
-    ensures answer { λ r. ⌜ r ≡ packed (answerTo (testedSamples (cellsIn (now (cells .entry))))) ⌝ }
-    ensures numbers { λ r. ⌜ blockNumbers r ≡ firstFault (testedSamples (cellsIn (now (cells .entry)))) ⌝ }
-    ensures bytes { λ _. ⌜ now (cells .exit) ≡ bytesLeft (λ P. forward P (cellsIn (now (cells .entry)))) (now (cells .entry)) (testedSamples (cellsIn (now (cells .entry)))) ⌝ }
-    ensures distance { λ r. ⌜ (r ≡ 0 → (P : ℕ) × (length (cellsIn (now (cells .entry))) ≡ 2 ^ P) × WithinE P (cellsIn (now (cells .entry))) (cellsIn (now (cells .exit)))) ⌝ }
-    ensures first_line { λ r. ⌜ (r ≡ 0 → cell (cellsIn (now (cells .exit))) 0 ≡ sum (length (cellsIn (now (cells .entry)))) (cell (cellsIn (now (cells .entry))))) ⌝ }
+    ensures answer { λ r. ⌜ r ≡ packed (blockAnswer (testedSamples (cellsIn (now (cells .entry))))) ⌝ }
+    ensures numbers { λ r. ⌜ unpackedBlock r ≡ verdictNumbers (testedSamples (cellsIn (now (cells .entry)))) ⌝ }
+    ensures bytes { λ _. ⌜ now (cells .exit) ≡ forwardBytes (now (cells .entry)) ⌝ }
+    ensures distance { λ r. ⌜ (r ≡ 0 → NearDirectSum (cellsIn (now (cells .entry))) (cellsIn (now (cells .exit)))) ⌝ }
+    ensures first_line { λ r. ⌜ (r ≡ 0 → FirstLineExact (cellsIn (now (cells .entry))) (cellsIn (now (cells .exit)))) ⌝ }
 {
-    let len = cell_count(cells.len(), CELL * BlockKind::LARGEST);
+    let len = cell_count(CELL * BlockKind::LARGEST, cells.len());
     let mut block = [0i64; BlockKind::LARGEST];
     forward_in(cells, &mut block[..len])
 }
@@ -54,11 +51,11 @@ pub extern "C" fn hartley_forward(cells: &mut [u8]) -> u64
 // The block of the spectrum that the bytes spell, in its place.
 #[no_mangle]
 pub extern "C" fn hartley_backward(cells: &mut [u8]) -> u64
-    ensures answer { λ r. ⌜ r ≡ packed (answerTo (testedSpectrum [] (cellsIn (now (cells .entry))))) ⌝ }
-    ensures numbers { λ r. ⌜ blockNumbers r ≡ firstFault (testedSpectrum [] (cellsIn (now (cells .entry)))) ⌝ }
-    ensures bytes { λ _. ⌜ now (cells .exit) ≡ bytesLeft (λ P. backward P (cellsIn (now (cells .entry)))) (now (cells .entry)) (testedSpectrum [] (cellsIn (now (cells .entry)))) ⌝ }
+    ensures answer { λ r. ⌜ r ≡ packed (blockAnswer (testedSpectrum [] (cellsIn (now (cells .entry))))) ⌝ }
+    ensures numbers { λ r. ⌜ unpackedBlock r ≡ verdictNumbers (testedSpectrum [] (cellsIn (now (cells .entry)))) ⌝ }
+    ensures bytes { λ _. ⌜ now (cells .exit) ≡ backwardBytes (now (cells .entry)) ⌝ }
 {
-    let len = cell_count(cells.len(), CELL * BlockKind::LARGEST);
+    let len = cell_count(CELL * BlockKind::LARGEST, cells.len());
     let mut block = [0i64; BlockKind::LARGEST];
     backward_in(cells, &mut block[..len])
 }
@@ -66,12 +63,12 @@ pub extern "C" fn hartley_backward(cells: &mut [u8]) -> u64
 // The doubled power of the spectrum that the bytes spell, for lines 0 to N/2, in lent bytes.
 #[no_mangle]
 pub extern "C" fn hartley_power(spectrum: &[u8], powers: &mut [u8]) -> u64
-    ensures answer { λ r. ⌜ r ≡ packed (answerTo (testedPower (cellsIn (now (spectrum .entry))) (cellsIn (now (powers .entry))))) ⌝ }
-    ensures numbers { λ r. ⌜ blockNumbers r ≡ firstFault (testedPower (cellsIn (now (spectrum .entry))) (cellsIn (now (powers .entry)))) ⌝ }
-    ensures bytes { λ _. ⌜ now (powers .exit) ≡ bytesLeft (λ _. doubledLines Power (cellsIn (now (spectrum .entry)))) (now (powers .entry)) (testedPower (cellsIn (now (spectrum .entry))) (cellsIn (now (powers .entry)))) ⌝ }
+    ensures answer { λ r. ⌜ r ≡ packed (blockAnswer (testedPower (cellsIn (now (spectrum .entry))) (cellsIn (now (powers .entry))))) ⌝ }
+    ensures numbers { λ r. ⌜ unpackedBlock r ≡ verdictNumbers (testedPower (cellsIn (now (spectrum .entry))) (cellsIn (now (powers .entry)))) ⌝ }
+    ensures bytes { λ _. ⌜ now (powers .exit) ≡ powerBytes (now (spectrum .entry)) (now (powers .entry)) ⌝ }
 {
-    let lines = cell_count(powers.len(), CELL * LINES);
-    let len = cell_count(spectrum.len(), CELL * BlockKind::LARGEST);
+    let lines = cell_count(CELL * LINES, powers.len());
+    let len = cell_count(CELL * BlockKind::LARGEST, spectrum.len());
     let mut cells = [0i64; BlockKind::LARGEST];
     let mut values = [0i64; LINES];
     power_in(spectrum, powers, &mut cells[..len], &mut values[..lines])
@@ -80,8 +77,8 @@ pub extern "C" fn hartley_power(spectrum: &[u8], powers: &mut [u8]) -> u64
 // The check of a trace.
 #[no_mangle]
 pub extern "C" fn hartley_check(trace: &[u8]) -> u64
-    ensures answer { λ r. ⌜ r ≡ packedTrace (answerToTrace (contents (now (trace .entry)))) ⌝ }
-    ensures numbers { λ r. ⌜ traceNumbers r ≡ told (contents (now (trace .entry))) ⌝ }
+    ensures answer { λ r. ⌜ r ≡ packedTrace (traceAnswer (contents (now (trace .entry)))) ⌝ }
+    ensures numbers { λ r. ⌜ unpackedTrace r ≡ contentsNumbers (contents (now (trace .entry))) ⌝ }
 {
     match trace::check(trace) {
         TraceAnswer::Refused(refusal) => packed_refusal(refusal),
@@ -132,7 +129,7 @@ pub extern "C" fn hartley_blocks(answer: u64) -> u64
 // Forward, with room for the cells that are read.
 fn forward_in(bytes: &mut [u8], cells: &mut [i64]) -> u64
     requires { ⌜ length (now cells) ≡ cellCount (CELL * LARGEST) (length (now bytes)) ⌝ }
-    ensures { λ r. ⌜ Answered (testedSamples (cellsIn (now (bytes .entry)))) (λ P. forward P (cellsIn (now (bytes .entry)))) (now (bytes .entry)) (now (bytes .exit)) r ⌝ }
+    ensures { λ r. ⌜ Answered (testedSamples (cellsIn (now (bytes .entry)))) (forwardBytes (now (bytes .entry))) (now (bytes .exit)) r ⌝ }
 {
     decode(bytes, cells);
     answered(hartley::forward(cells), cells, bytes)
@@ -141,7 +138,7 @@ fn forward_in(bytes: &mut [u8], cells: &mut [i64]) -> u64
 // Backward, with room for the cells that are read.
 fn backward_in(bytes: &mut [u8], cells: &mut [i64]) -> u64
     requires { ⌜ length (now cells) ≡ cellCount (CELL * LARGEST) (length (now bytes)) ⌝ }
-    ensures { λ r. ⌜ Answered (testedSpectrum [] (cellsIn (now (bytes .entry)))) (λ P. backward P (cellsIn (now (bytes .entry)))) (now (bytes .entry)) (now (bytes .exit)) r ⌝ }
+    ensures { λ r. ⌜ Answered (testedSpectrum [] (cellsIn (now (bytes .entry)))) (backwardBytes (now (bytes .entry))) (now (bytes .exit)) r ⌝ }
 {
     decode(bytes, cells);
     answered(hartley::backward(cells), cells, bytes)
@@ -150,7 +147,7 @@ fn backward_in(bytes: &mut [u8], cells: &mut [i64]) -> u64
 // Power, with room for the cells that are read and for those of the output.
 fn power_in(spectrum: &[u8], powers: &mut [u8], cells: &mut [i64], values: &mut [i64]) -> u64
     requires { ⌜ (length (now cells) ≡ cellCount (CELL * LARGEST) (length (now spectrum))) × (length (now values) ≡ cellCount (CELL * (LARGEST / 2 + 1)) (length (now powers))) ⌝ }
-    ensures { λ r. ⌜ Answered (testedPower (cellsIn (now (spectrum .entry))) (cellsIn (now (powers .entry)))) (λ _. doubledLines Power (cellsIn (now (spectrum .entry)))) (now (powers .entry)) (now (powers .exit)) r ⌝ }
+    ensures { λ r. ⌜ Answered (testedPower (cellsIn (now (spectrum .entry))) (cellsIn (now (powers .entry)))) (powerBytes (now (spectrum .entry)) (now (powers .entry))) (now (powers .exit)) r ⌝ }
 {
     decode(spectrum, cells);
     answered(fourier::power(cells, values), values, powers)
@@ -169,7 +166,7 @@ fn answered(answer: Answer, cells: &[i64], bytes: &mut [u8]) -> u64
 }
 
 // The number of cells that so many bytes are read as: 0, which no call takes, where a byte is left over or there are more than the most.
-fn cell_count(bytes: usize, most: usize) -> usize
+fn cell_count(most: usize, bytes: usize) -> usize
     ensures { λ r. ⌜ (r ≡ cellCount most bytes) × (CELL * r ≤ most) ⌝ }
 {
     if bytes % CELL != 0 {
@@ -189,7 +186,7 @@ fn decode(bytes: &[u8], cells: &mut [i64])
     let mut i = 0;
     while i < cells.len() {
         let at = CELL * i;
-        cells[i] = bytes::complement(word(&bytes[at..at + CELL]));
+        cells[i] = little_endian::signed_of_word(word(&bytes[at..at + CELL]));
         i += 1;
     }
 }
@@ -216,7 +213,10 @@ fn encode(cells: &[i64], bytes: &mut [u8])
     let mut i = 0;
     while i < cells.len() {
         let at = CELL * i;
-        put_word(bytes::residue(cells[i]), &mut bytes[at..at + CELL]);
+        put_word(
+            little_endian::word_of_signed(cells[i]),
+            &mut bytes[at..at + CELL],
+        );
         i += 1;
     }
 }

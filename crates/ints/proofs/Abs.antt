@@ -6,7 +6,7 @@ use Prim.Native.Nat.{ℕ, suc, _+_, _*_, _≤_, min}
 use native.Mathlib.Omega.{arith}
 use lib.IntN.{ℤ, pos, negsuc, negℤ, natAbs, _+ℤ_, _-ℤ_, _*ℤ_}
 use Rattle.ints.proofs.Ring.{Built, ring, quotes, normal}
-use Rattle.ints.proofs.Order.{_≼_, pos-inj, gained, lost, built-parts, le-goal, le-fact}
+use Rattle.ints.proofs.Order.{_≼_, pos-inj, gained, lost, built-parts, le-goal}
 
 -- ---- for `omega`: |P − M| is P + M less twice the smaller
 
@@ -41,17 +41,13 @@ abs-times (pos a) (negsuc b) = abs-neg (pos (a * suc b))
 abs-times (negsuc a) (pos b) = abs-neg (pos (suc a * b))
 abs-times (negsuc a) (negsuc b) = refl
 
--- ---- |z| ≤ n, as two orders, and back
+-- ---- |z| ≤ n, as two orders
 
 pub abs-upper : {z : ℤ} {n : ℕ} → natAbs z ≤ n → z ≼ pos n
 abs-upper {z} {n} h = let Γ = z ∷ pos n ∷ [] in le-goal Γ (search quotes) (omega (arith, abs-fact Γ z (search quotes)))
 
 pub abs-lower : {z : ℤ} {n : ℕ} → natAbs z ≤ n → negℤ (pos n) ≼ z
 abs-lower {z} {n} h = let Γ = z ∷ pos n ∷ [] in le-goal Γ (search quotes) (omega (arith, abs-fact Γ z (search quotes)))
-
-pub abs-between : {z : ℤ} {n : ℕ} → negℤ (pos n) ≼ z → z ≼ pos n → natAbs z ≤ n
-abs-between {z} {n} h k = let Γ = z ∷ pos n ∷ [] in
-    omega (arith, abs-fact Γ z (search quotes), le-fact Γ h (search quotes), le-fact Γ k (search quotes))
 
 -- ---- |z| = 0
 

@@ -25,10 +25,6 @@ fits z h = record { sfits = omega (arith, mag-le z) }
 pub reads-back : (z : ℤ) (b : ℕ) → b < 2 ^ 63 → natAbs z ≤ b → toZ w64 (ofZ w64 z) ≡ z
 reads-back z b k h = toZ-ofZ (fits z (omega arith))
 
-pub fits-abs : (z : ℤ) → SFits w64 z → natAbs z ≤ 2 ^ 63
-fits-abs (pos n) h = omega arith
-fits-abs (negsuc n) h = omega arith
-
 -- ---- a shift to the right, and what it takes away
 
 pub fits-shift : (z : ℤ) (m : ℕ) → SFits w64 z → SFits w64 (shrZ z m)

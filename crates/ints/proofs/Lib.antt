@@ -10,6 +10,6 @@ pub mod Sums
 pub mod Fit
 pub mod Tables
 pub mod Filling
-pub mod Parts
+pub mod Slices
 pub mod Mirror
 pub mod Writing

@@ -188,10 +188,6 @@ module _ (Γ : List ℤ) {a b : ℤ} where
 
 -- ---- transitive, antisymmetric, total; sums and products
 
-pub ≼-trans : {a b c : ℤ} → a ≼ b → b ≼ c → a ≼ c
-≼-trans {a} {b} {c} h k = let Γ = a ∷ b ∷ c ∷ [] in
-    le-goal Γ (search quotes) (omega (arith, le-fact Γ h (search quotes), le-fact Γ k (search quotes)))
-
 pub ≼-antisym : {a b : ℤ} → a ≼ b → b ≼ a → a ≡ b
 ≼-antisym {a} {b} h k = let Γ = a ∷ b ∷ [] in
     eq-goal Γ (search quotes) (omega (arith, le-fact Γ h (search quotes), le-fact Γ k (search quotes)))

@@ -11,7 +11,7 @@ use Rattle.ints.specs.Quotient.{floor, rounded}
 use Rattle.ints.proofs.Ring.{ring, quotes, sub-zero}
 use Rattle.ints.proofs.Order.{eq-fact, eq-goal}
 use Rattle.ints.proofs.Abs.{abs-times, abs-zero}
-use Rattle.ints.proofs.Floor.{Rest, floor-exact, floor-rest, half-added-near}
+use Rattle.ints.proofs.Floor.{floor-exact, floor-rest, half-added-near}
 
 half-of : (h : ℕ) → 2 * h / 2 ≡ h
 half-of h = omega arith

@@ -11,10 +11,6 @@ use Rattle.ints.proofs.Abs.{abs-plus}
 
 -- ---- term by term
 
-pub sum-suc : (n : ℕ) (f : ℕ → ℤ) → sum (suc n) f ≡ sum n f +ℤ f n
-unfolding sum
-sum-suc n f = refl
-
 pub sum-cong : (n : ℕ) (f g : ℕ → ℤ) → ((i : ℕ) → i < n → f i ≡ g i) → sum n f ≡ sum n g
 unfolding sum
 sum-cong zero f g h = refl

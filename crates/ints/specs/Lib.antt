@@ -1,3 +1,4 @@
+pub mod Cells
 pub mod Quotient
 pub mod Sum
 pub mod Tabulate

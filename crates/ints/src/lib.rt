@@ -6,7 +6,7 @@ ghost use Rattle.ints.specs.Quotient.{rounded};
 
 // x divided by 2^digits, rounded to the nearest whole number, halves up (document 01, Levels 3), for every x and every number of digits.
 // The quotient by half the divisor, rounded down, is halved with rounding, so that no sum can overflow.
-pub fn rounded(x: i64, digits: usize) -> i64
+pub fn rounded(digits: usize, x: i64) -> i64
     ensures { λ r. ⌜ r ≡ rounded (2 ^ digits) x ⌝ }
 {
     if digits == 0 {

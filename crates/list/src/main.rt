@@ -6,7 +6,7 @@ ghost use mathlib.Core.Path.{_≡_};
 ghost use Prim.Native.Nat.{_+_};
 ghost use lib.ListN.{length};
 ghost use Rattle.trace.specs.Contents.{LONGEST};
-ghost use Rattle.listing.specs.Workers.{ROOM};
+ghost use Rattle.listing.specs.Listing.{ROOM};
 ghost use Rattle.list.specs.Input.{Fits};
 
 // What was read from standard input: so many bytes, or a read failed.

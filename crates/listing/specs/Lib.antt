@@ -1,3 +1,3 @@
 pub mod Lines
 pub mod Listing
-pub mod Workers
+pub mod Inner

@@ -1,2 +1,1 @@
 pub mod RefusalTable
-pub mod BlockKinds

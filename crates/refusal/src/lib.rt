@@ -1,14 +1,7 @@
-// Refusals with their numbers and places, the block's kind, and the two counts that must not be mixed up: moments and lines.
+// Refusals with their numbers and places.
+use kind::Line;
 ghost use mathlib.Core.Path.{_≡_};
-ghost use mathlib.Core.List.{[], _∷_};
 ghost use Rattle.refusal.specs.RefusalTable.{number, place};
-ghost use Rattle.refusal.specs.BlockKinds.{kindOf, LARGEST, SCALE, SCALE-DIGITS, TURN};
-
-// A moment of a block, counted from 0 (document 01's t, the source's tau).
-pub struct Moment(pub usize);
-
-// A line of a spectrum, counted from 0 (document 01's v, the source's nu).
-pub struct Line(pub usize);
 
 // Why an input is refused: the rows of document 01, Refused input, in its order and by its words. A refusal holds its place
 // where that can be other than 0: a cell, a line, a byte of the trace, or the number of a block.
@@ -63,56 +56,5 @@ impl Refusal {
             Refusal::Head(byte) => byte,
             Refusal::Absent(block) => block,
         }
-    }
-}
-
-// A block's kind: a block has 2^p cells (document 01's P). `of_len` gives p from 1 to 10; a call that is handed a kind tests it.
-pub struct BlockKind {
-    pub p: usize,
-}
-
-// The kind of a block, or why there is none.
-pub enum KindAnswer {
-    Taken(BlockKind),
-    Refused(Refusal),
-}
-
-impl BlockKind {
-    // The largest length of a block, in cells.
-    pub const LARGEST: usize = 1024;
-    // The steps of a turn.
-    pub const TURN: usize = 1024;
-    // The scale of the quarter table.
-    pub const SCALE: usize = 32768;
-    // The binary digits of the scale: it is 2^15.
-    pub const SCALE_DIGITS: usize = 15;
-
-    // The four constants, which are document 01's.
-    pub fn constants() -> [usize; 4]
-        ensures named { λ _. do ⌜ ((← ⟦BlockKind::LARGEST⟧ .entry) ≡ LARGEST) × ((← ⟦BlockKind::TURN⟧ .entry) ≡ TURN) × ((← ⟦BlockKind::SCALE⟧ .entry) ≡ SCALE) × ((← ⟦BlockKind::SCALE_DIGITS⟧ .entry) ≡ SCALE-DIGITS) ⌝ }
-        ensures listed { λ r. ⌜ r ≡ LARGEST ∷ TURN ∷ SCALE ∷ SCALE-DIGITS ∷ [] ⌝ }
-    {
-        [
-            BlockKind::LARGEST,
-            BlockKind::TURN,
-            BlockKind::SCALE,
-            BlockKind::SCALE_DIGITS,
-        ]
-    }
-
-    // The kind of a block of len cells, or refusal 1.
-    pub fn of_len(len: usize) -> KindAnswer
-        ensures { λ r. ⌜ r ≡ kindOf len ⌝ }
-    {
-        let mut p = 1;
-        let mut cells = 2;
-        while cells <= BlockKind::LARGEST {
-            if cells == len {
-                return KindAnswer::Taken(BlockKind { p });
-            }
-            cells = 2 * cells;
-            p += 1;
-        }
-        KindAnswer::Refused(Refusal::Length)
     }
 }

@@ -17,7 +17,7 @@ use Rattle.cosine.specs.Cosine.{cosine, sine, cas, fine}
 use Rattle.cosine.proofs.Turn.{cosine-periodic, sine-periodic, cosine-even, sine-odd}
 use Rattle.cosine.proofs.HalfAngle.{fine-end}
 use Rattle.cosine.proofs.FineTurn.{opposite, Fine-size, fine-size}
-use Rattle.block.specs.Cells.{cell}
+use Rattle.ints.specs.Cells.{cell}
 use Rattle.spectrum.specs.Distance.{directSum}
 use Rattle.spectrum.proofs.Pairs.{whole-steps}
 

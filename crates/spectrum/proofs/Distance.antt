@@ -16,7 +16,7 @@ use Rattle.ints.proofs.Ring.{ring, quotes}
 use Rattle.ints.proofs.Powers.{two-pow}
 use Rattle.cosine.specs.Cosine.{cas, fine}
 use Rattle.cosine.proofs.FineTurn.{cosine-zero, sine-zero}
-use Rattle.block.specs.Cells.{cell}
+use Rattle.ints.specs.Cells.{cell}
 use Rattle.spectrum.specs.Levels.{reversed, levels, transformed}
 use Rattle.spectrum.specs.Distance.{ceiling, bound, directSum}
 use Rattle.spectrum.proofs.EvenOdd.{lines, transformed-lines, even-odd}

@@ -12,7 +12,7 @@ use lib.Pow.{pow-pos, pow-add}
 use Rattle.ints.specs.Tabulate.{tabulate}
 use Rattle.ints.proofs.Powers.{two-pow}
 use Rattle.ints.proofs.Tables.{getD-tabulate, length-tabulate}
-use Rattle.block.specs.Cells.{cell}
+use Rattle.ints.specs.Cells.{cell}
 use Rattle.spectrum.specs.Levels.{reversed, permuted, line, levels, transformed}
 use Rattle.spectrum.proofs.Reversal.{reversed-split}
 use Rattle.spectrum.proofs.Stages.{levels-cell, line-cong, levels-within}

@@ -13,7 +13,7 @@ use Rattle.ints.proofs.Ring.{ring, quotes}
 use Rattle.ints.proofs.Powers.{two-pow}
 use Rattle.ints.proofs.Sums.{sum-even-odd}
 use Rattle.cosine.proofs.FineTurn.{quarterUnit}
-use Rattle.block.specs.Cells.{cell}
+use Rattle.ints.specs.Cells.{cell}
 use Rattle.spectrum.specs.Levels.{reversed, permuted, line, levels, transformed}
 use Rattle.spectrum.proofs.EvenOdd.{lines, even-odd}
 use Rattle.spectrum.proofs.Nearest.{Nearest, exact-quotient}

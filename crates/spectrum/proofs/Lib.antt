@@ -9,5 +9,5 @@ pub mod OneLevel
 pub mod Distance
 pub mod Magnitude
 pub mod FirstLine
-pub mod Demand3
+pub mod ForwardDistance
 pub mod Loudness

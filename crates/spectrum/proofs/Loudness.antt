@@ -1,31 +1,27 @@
 -- No spectrum that forward leaves is too loud for the calls that take one: by the magnitude law a line of 1,024 samples is at most
 -- √2 × 1,024 × 32,768 + E(10) in size, about 2^25.5, and they take 2^28.
--- Example: `forward-taken outputs xs kind e f : testedSpectrum outputs (forward (kind .p) xs) ≡ Taken kind`, with e : testedSamples xs ≡ Taken kind.
-use mathlib.Core.Path.{_≡_, sym, _∙_}
+-- Example: `forward-quiet 10 few xs quiet i : natAbs (cell (forward 10 xs) i) ≤ LOUDEST-LINE`.
+use mathlib.Core.Path.{_≡_, _∙_}
 use mathlib.Core.Bool.{Bool, true, false, not}
-use mathlib.Core.List.{List, []}
-use Prim.Native.Nat.{ℕ, _+_, _*_, _/_, _^_, _≤_, _<_}
+use mathlib.Core.List.{List}
+use Prim.Native.Nat.{ℕ, _+_, _*_, _^_, _≤_, _<_}
 use native.Mathlib.Nat.{le-trans, le-of-mul-le-mul-left}
 use native.Mathlib.Omega.{arith}
 use lib.Dec.{T, leb, leb→le, ltb, ltb→lt, nltb→le}
-use lib.IntN.{ℤ, pos, negℤ, natAbs}
+use lib.IntN.{ℤ, pos, natAbs}
 use lib.ListN.{length, List·getD-eq-default}
 use Rattle.ints.specs.Quotient.{rounded}
 use Rattle.ints.specs.Tabulate.{tabulate}
-use Rattle.ints.proofs.Abs.{abs-lower, abs-upper}
 use Rattle.ints.proofs.Tables.{alongside, alongside-at}
-use Rattle.refusal.specs.declared.BlockKind.{BlockKind}
-use Rattle.refusal.specs.declared.KindAnswer.the-variants.{Taken}
-use Rattle.refusal.specs.BlockKinds.{SCALE, SCALE-DIGITS}
-use Rattle.block.specs.Cells.{cell, LOUDEST-SAMPLE, LOUDEST-LINE}
-use Rattle.block.specs.Tests.{misfit, testedSamples, testedSpectrum}
-use Rattle.block.proofs.Taken.{taken-kind, samples-quiet, must-take}
+use Rattle.kind.specs.BlockKinds.{SCALE, SCALE-DIGITS}
+use Rattle.ints.specs.Cells.{cell}
+use Rattle.kind.specs.Loudness.{LOUDEST-SAMPLE, LOUDEST-LINE}
 use Rattle.spectrum.specs.Spectrum.{tableCosine, tableSine, forwardAt, forward}
 use Rattle.spectrum.specs.Levels.{permuted, transformed}
 use Rattle.spectrum.specs.Distance.{bound}
 use Rattle.spectrum.proofs.Stages.{length-permuted, length-levels}
 use Rattle.spectrum.proofs.Magnitude.{line-size}
-use Rattle.spectrum.proofs.Demand3.{in-force}
+use Rattle.spectrum.proofs.ForwardDistance.{in-force}
 
 pub length-forward : (P : ℕ) (xs : List ℤ) → length (forward P xs) ≡ 2 ^ P
 unfolding forward forwardAt transformed
@@ -47,10 +43,3 @@ forward-quiet P few xs quiet i = go (ltb i (2 ^ P)) (ltb→lt i (2 ^ P)) (nltb�
     go : (t : Bool) → (T t → i < 2 ^ P) → (T (not t) → 2 ^ P ≤ i) → natAbs (cell (forward P xs) i) ≤ LOUDEST-LINE
     go true f g = le-of-mul-le-mul-left {k = 65536} (le-trans (line-size in-force LOUDEST-SAMPLE (omega arith) P few xs quiet i (f tt)) (size P few)) (omega arith)
     go false f g = rw (List·getD-eq-default (forward P xs) (pos 0) {n = i} (rw (length-forward P xs) (g tt))) (omega arith)
-
-pub forward-taken : (outputs : List ℕ) (xs : List ℤ) (kind : BlockKind) → testedSamples xs ≡ Taken kind → misfit (length xs / 2 + 1) outputs ≡ false
-    → testedSpectrum outputs (forward (kind .p) xs) ≡ Taken kind
-forward-taken outputs xs kind e f = let k = taken-kind _ _ [] xs kind e in let long : length (forward (kind .p) xs) ≡ length xs = length-forward (kind .p) xs ∙ sym (k .cells) in
-    let quiet = forward-quiet (kind .p) (k .most) xs (samples-quiet xs kind e) in
-    must-take (negℤ (pos LOUDEST-LINE)) (pos LOUDEST-LINE) (kind .p) outputs (forward (kind .p) xs) (rw long k) (rw long f)
-    (λ i. abs-lower (quiet i)) (λ i. abs-upper (quiet i))

@@ -11,7 +11,7 @@ use lib.Dec.{T, ltb, ltb→lt, nltb→le}
 use lib.IntN.{ℤ, pos, natAbs}
 use lib.ListN.{List·getD-eq-default}
 use lib.Pow.{pow-pos, pow-add}
-use Rattle.block.specs.Cells.{cell}
+use Rattle.ints.specs.Cells.{cell}
 use Rattle.spectrum.specs.Levels.{reversed, permuted, levels, transformed}
 use Rattle.spectrum.specs.Distance.{bound}
 use Rattle.spectrum.proofs.Stages.{length-permuted, length-levels}

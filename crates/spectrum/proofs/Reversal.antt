@@ -9,7 +9,7 @@ use lib.IntN.{ℤ, pos}
 use lib.Pow.{pow-add}
 use Rattle.ints.proofs.Powers.{two-pow}
 use Rattle.ints.proofs.Tables.{getD-tabulate}
-use Rattle.block.specs.Cells.{cell}
+use Rattle.ints.specs.Cells.{cell}
 use Rattle.spectrum.specs.Levels.{reversed, permuted}
 
 reversed-suc : (P t : ℕ) → reversed (suc P) t ≡ t % 2 * 2 ^ P + reversed P (t / 2)

@@ -11,7 +11,7 @@ use lib.ListN.{length}
 use lib.Pow.{pow-pos}
 use Rattle.ints.proofs.Powers.{two-pow}
 use Rattle.ints.proofs.Tables.{getD-tabulate, length-tabulate}
-use Rattle.block.specs.Cells.{cell}
+use Rattle.ints.specs.Cells.{cell}
 use Rattle.spectrum.specs.Levels.{reversed, permuted, line, joined, level, levels}
 
 pub length-permuted : (P : ℕ) (xs : List ℤ) → length (permuted P xs) ≡ 2 ^ P
@@ -47,7 +47,7 @@ module _ (R : ℤ → ℤ) (C S : ℕ → ℤ) where
   line-cong n a c b d v z h k = combined _ _ (h _ (mod-lt v z)) (k _ (mod-lt v z)) (k _ (omega (arith, mod-lt v z, mod-lt (n - v % n) z)))
 
   -- where x from cell m · 2n on has the cells of y, as far as k · 2n of them, it is so after the level too
-  joined-within : (n m k : ℕ) (x y : ℕ → ℤ) → zero < n → ((j : ℕ) → j < k * (2 * n) → x (m * (2 * n) + j) ≡ y j) →
+  pub joined-within : (n m k : ℕ) (x y : ℕ → ℤ) → zero < n → ((j : ℕ) → j < k * (2 * n) → x (m * (2 * n) + j) ≡ y j) →
       (i : ℕ) → i < k * (2 * n) → joined R C S n x (m * (2 * n) + i) ≡ joined R C S n y i
   joined-within n m k x y z h i hi = rw (mul-add-mod-self-right m (2 * n) i, mul-add-div-right two m i)
       (line-cong n _ _ _ _ (i % (2 * n)) z (λ j hj. ap x (place j) ∙ h (i / (2 * n) * (2 * n) + j) (below j (omega arith)))

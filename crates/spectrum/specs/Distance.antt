@@ -4,9 +4,9 @@ use Prim.Native.Nat.{ℕ, zero, suc, _+_, _*_, _-_, _/_, _%_, _^_, _≤_, _<_}
 use lib.IntN.{ℤ, pos, natAbs, _-ℤ_, _*ℤ_}
 use lib.ListN.{length, getD}
 use Rattle.ints.specs.Sum.{sum}
-use Rattle.refusal.specs.BlockKinds.{TURN}
+use Rattle.kind.specs.BlockKinds.{TURN}
 use Rattle.cosine.specs.Cosine.{cas, fine}
-use Rattle.block.specs.Cells.{cell}
+use Rattle.ints.specs.Cells.{cell}
 
 -- line v of the direct sum of the N samples xs: the sum over t from 0 to N − 1 of sample(t) × cas(v × t × 1,024 / N mod 1,024),
 -- with the cas of the cosines F; document 01's are the fine ones
@@ -26,7 +26,7 @@ bound q M (suc zero) = 0
 bound q M (suc (suc zero)) = 0
 bound q M (suc (suc (suc P))) = ceiling (5 * bound q M (suc (suc P))) 2 + ceiling (2 ^ suc (suc P) * M) q + 1
 
--- E for P = 1 to 10 (and 0 for P = 0). That these figures are `bound` at scale 32,768 and samples up to 32,768 is `E-is-bound` in proofs/Demand3.
+-- E for P = 1 to 10 (and 0 for P = 0). That these figures are `bound` at scale 32,768 and samples up to 32,768 is `E-is-bound` in proofs/ForwardDistance.
 abbrev pub E : ℕ → ℕ
 E P = getD (0 ∷ 0 ∷ 0 ∷ 5 ∷ 22 ∷ 72 ∷ 213 ∷ 598 ∷ 1624 ∷ 4317 ∷ 11306 ∷ []) P 0
 

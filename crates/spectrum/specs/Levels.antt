@@ -5,8 +5,8 @@ use Prim.Native.Nat.{ℕ, zero, suc, _+_, _*_, _-_, _/_, _%_, _^_}
 use lib.IntN.{ℤ, _+ℤ_, _*ℤ_}
 use lib.ListN.{length}
 use Rattle.ints.specs.Tabulate.{tabulate}
-use Rattle.refusal.specs.BlockKinds.{TURN}
-use Rattle.block.specs.Cells.{cell}
+use Rattle.kind.specs.BlockKinds.{TURN}
+use Rattle.ints.specs.Cells.{cell}
 
 -- ---- 1. Permute
 

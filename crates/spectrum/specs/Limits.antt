@@ -1,7 +1,7 @@
--- Room in 64 bits, which document 01 leaves open: no cell before a level is above the first (`forward-room` in proofs/Demand3), and so no sum of
--- two products above the second.
+-- Document 01, Levels: for N = 1,024 all sums fit 64 bits. No cell before a level is above the first number (law `forward-room`), and so no sum of two
+-- products above the second, which is below 2^63.
 use Prim.Native.Nat.{ℕ, _*_, _^_}
-use Rattle.refusal.specs.BlockKinds.{SCALE}
+use Rattle.kind.specs.BlockKinds.{SCALE}
 
 abbrev pub LARGEST-CELL : ℕ
 LARGEST-CELL = 2 ^ 40

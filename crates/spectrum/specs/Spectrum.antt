@@ -3,7 +3,7 @@ use mathlib.Core.List.{List, map}
 use Prim.Native.Nat.{ℕ, _^_}
 use lib.IntN.{ℤ}
 use Rattle.ints.specs.Quotient.{rounded}
-use Rattle.refusal.specs.BlockKinds.{SCALE-DIGITS}
+use Rattle.kind.specs.BlockKinds.{SCALE-DIGITS}
 use Rattle.cosine.specs.Cosine.{cosine, sine, quarterTable}
 use Rattle.spectrum.specs.Levels.{line, joined, level, levels, transformed}
 

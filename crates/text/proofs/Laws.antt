@@ -38,7 +38,7 @@ before-more n h = rw (le-ltb n 10 h) refl
 
 -- ---- the bound `most` of the definition is never met
 
-same-text : (n : ℕ) (xs ys : List ℕ) → (10 ≤ n → xs ≡ ys) → cond (ltb n 10) [] xs ++ (digit (n % 10) ∷ []) ≡ cond (ltb n 10) [] ys ++ (digit (n % 10) ∷ [])
+same-text : (n : ℕ) (xs ys : List ℕ) → (10 ≤ n → xs ≡ ys) → (cond (ltb n 10) [] xs) ++ (digit (n % 10) ∷ []) ≡ (cond (ltb n 10) [] ys) ++ (digit (n % 10) ∷ [])
 same-text n xs ys e = ⊎-elim (λ h. rw (lt-ltb n 10 h) refl) (λ h. rw (le-ltb n 10 h, e h) refl) (one-or-more n)
 
 same-digits : (m k n : ℕ) → n < m → n < k → digits m n ≡ digits k n
@@ -48,7 +48,7 @@ same-digits (suc m) zero n h l = absurd (omega arith)
 same-digits (suc m) (suc k) n h l = same-text n (digits m (n / 10)) (digits k (n / 10)) (λ t. same-digits m k (n / 10) (omega arith) (omega arith))
 
 -- every number's text is that of n / 10, unless n has one digit alone, and then its last digit
-pub decimal-is : (n : ℕ) → decimal n ≡ cond (ltb n 10) [] (decimal (n / 10)) ++ (digit (n % 10) ∷ [])
+pub decimal-is : (n : ℕ) → decimal n ≡ before n ++ (digit (n % 10) ∷ [])
 unfolding decimal digits
 decimal-is n = same-text n (digits n (n / 10)) (decimal (n / 10)) (λ t. same-digits n (suc (n / 10)) (n / 10) (omega arith) (omega arith))
 
@@ -77,6 +77,10 @@ pub signed-from-zero : (z : ℤ) (m : ℕ) → m ≡ natAbs z → AtMost (pos 0)
 unfolding signedDecimal
 signed-from-zero (pos n) m e h = rw e refl
 signed-from-zero (negsuc n) m e h = absurd (omega arith)
+
+pub signed-natural : (n : ℕ) → signedDecimal (pos n) ≡ decimal n
+unfolding signedDecimal
+signed-natural n = refl
 
 -- ---- a field
 

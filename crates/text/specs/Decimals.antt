@@ -19,7 +19,7 @@ digit d = 48 + d
 -- the digits of n: those of n / 10, unless n has one alone, and then the last. There are at most `most`, and none is ever cut off (law `decimal-is`)
 unfoldable pub digits : ℕ → ℕ → List ℕ
 digits zero n = []
-digits (suc most) n = let before = digits most (n / 10) in cond (ltb n 10) [] before ++ (digit (n % 10) ∷ [])
+digits (suc most) n = let before = digits most (n / 10) in (cond (ltb n 10) [] before) ++ (digit (n % 10) ∷ [])
 
 unfoldable pub decimal : ℕ → List ℕ
 unfolding digits

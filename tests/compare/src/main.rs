@@ -1,4 +1,4 @@
-//! Compares the archive libhost.a and the listing program with the second program, on worked, random, extreme and
+//! Compares the archive libhartley.a and the listing program with the second program, on worked, random, extreme and
 //! damaged inputs. Use: compare --list PATH [--long]
 
 mod archive;

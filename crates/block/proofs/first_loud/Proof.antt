@@ -16,7 +16,7 @@ use mir.Syntax.{w64}
 use mir.Val.{toZ, ofZ}
 use denote.Ref.{now}
 use Rattle.ints.proofs.Comparisons.{Less, AtMost, comparisons, less-test, not-less-test}
-use Rattle.block.specs.Cells.{cell}
+use Rattle.ints.specs.Cells.{cell}
 use Rattle.block.specs.Tests.{firstLoud}
 use Rattle.block.proofs.first_loud.Statement.{statement}
 use Rattle.block.proofs.first_loud.Tie as tie
@@ -56,10 +56,10 @@ module _ (low high : ℤ) (xs : List ℤ) (i : ℕ) where
   end place h k = let e : rest ≡ 0 = rw (drop-of-length-le xs h) in omega arith
 
 abbrev Inv-loop : tie.InvT-loop
-Inv-loop cells low high i₀ i = firstLoud (toZ w64 low) (toZ w64 high) cells ≡ i + firstLoud (toZ w64 low) (toZ w64 high) (drop i cells)
+Inv-loop low high cells i₀ i = firstLoud (toZ w64 low) (toZ w64 high) cells ≡ i + firstLoud (toZ w64 low) (toZ w64 high) (drop i cells)
 
 abbrev μ-loop : tie.MeasureT-loop
-μ-loop cells low high i₀ i = length cells - i
+μ-loop low high cells i₀ i = length cells - i
 
 loop-holds : tie.Need-loop-holds Inv-loop μ-loop
 loop-holds c = start _ _ _ _ (omega arith)

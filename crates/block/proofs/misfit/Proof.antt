@@ -36,10 +36,10 @@ module _ (wanted : ℕ) (ns : List ℕ) (i : ℕ) where
   end h = rw (drop-of-length-le ns h) refl
 
 abbrev Inv-loop : tie.InvT-loop
-Inv-loop outputs wanted i₀ i = misfit wanted outputs ≡ misfit wanted (drop i outputs)
+Inv-loop wanted outputs i₀ i = misfit wanted outputs ≡ misfit wanted (drop i outputs)
 
 abbrev μ-loop : tie.MeasureT-loop
-μ-loop outputs wanted i₀ i = length outputs - i
+μ-loop wanted outputs i₀ i = length outputs - i
 
 loop-holds : tie.Need-loop-holds Inv-loop μ-loop
 loop-holds c = start _ _ 0 (omega arith)

@@ -9,18 +9,18 @@ use native.Mathlib.Omega.{arith}
 use lib.Dec.{ltb}
 use lib.IntN.{ℤ}
 use lib.ListN.{length}
-use Rattle.refusal.specs.declared.BlockKind.{BlockKind}
-use Rattle.refusal.specs.declared.KindAnswer.{KindAnswer}
-use Rattle.refusal.specs.declared.KindAnswer.the-variants.{Taken, Refused}
-use Rattle.refusal.specs.declared.Line.{Line}
+use Rattle.kind.specs.declared.BlockKind.{BlockKind}
+use Rattle.block.specs.declared.BlockVerdict.{BlockVerdict}
+use Rattle.block.specs.declared.BlockVerdict.the-variants.{Taken, Refused}
+use Rattle.kind.specs.declared.Line.{Line}
 use Rattle.refusal.specs.declared.Refusal.the-variants.{Line as LineAbove}
 use Rattle.block.specs.Tests.{refusedIf, testedSpectrum, testedLine}
 use Rattle.block.proofs.tested_line.Statement.{statement}
 use Rattle.block.proofs.tested_line.Tie as tie
 
 -- k is what the spectrum's tests have found
-module _ (line : Line) (xs : List ℤ) {k : KindAnswer} (e : k ≡ testedSpectrum [] xs) where
-  first : (found : KindAnswer) → k ≡ found → refusedIf (ltb (length xs / 2) (line .0)) (LineAbove line) found ≡ testedLine line xs
+module _ (line : Line) (xs : List ℤ) {k : BlockVerdict} (e : k ≡ testedSpectrum [] xs) where
+  first : (found : BlockVerdict) → k ≡ found → refusedIf (ltb (length xs / 2) (line .0)) (LineAbove line) found ≡ testedLine line xs
   first found g = ap (refusedIf (ltb (length xs / 2) (line .0)) (LineAbove line)) (sym g ∙ e)
 
   -- the answer by the outcome of the comparison
@@ -37,13 +37,13 @@ slice-aggregate-tested-spectrum : tie.Need-slice-aggregate-tested-spectrum
 slice-aggregate-tested-spectrum c = search needs
 
 tested-spectrum-requires : tie.Need-tested-spectrum-requires
-tested-spectrum-requires c κs = search needs
+tested-spectrum-requires c κs = tt
 
 enum-known-refusal : tie.Need-enum-known-refusal
-enum-known-refusal c = search needs
+enum-known-refusal c = c .match .keys1
 
 enum-known-kind : tie.Need-enum-known-kind
-enum-known-kind c = search needs
+enum-known-kind c = c .match .keys2
 
 returns : tie.Need-returns
 returns c = first _ _ (c .before .before .before .tested-spectrum .ensures) _ (c .before .refusal .given .1)

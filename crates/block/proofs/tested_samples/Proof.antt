@@ -1,7 +1,7 @@
 -- `tested_samples` is right because it hands on the limits -32,768 and 32,767, and no outputs.
 use borrow.Author.Needs.{needs}
 use Rattle.ints.proofs.Order.{equal}
-use Rattle.block.specs.Cells.{LEAST-SAMPLE, LARGEST-SAMPLE}
+use Rattle.kind.specs.Loudness.{LEAST-SAMPLE, LARGEST-SAMPLE}
 use Rattle.block.proofs.Limits.{by-limits}
 use Rattle.block.proofs.tested_samples.Statement.{statement}
 use Rattle.block.proofs.tested_samples.Tie as tie
@@ -10,7 +10,7 @@ slice-aggregate-tested : tie.Need-slice-aggregate-tested
 slice-aggregate-tested c = search needs
 
 tested-requires : tie.Need-tested-requires
-tested-requires c κs = search needs
+tested-requires c κs = tt
 
 returns : tie.Need-returns
 unfolding equal

@@ -2,7 +2,7 @@
 use borrow.Author.Needs.{needs}
 use lib.IntN.{pos, negℤ}
 use Rattle.ints.proofs.Order.{equal}
-use Rattle.block.specs.Cells.{LOUDEST-LINE}
+use Rattle.kind.specs.Loudness.{LOUDEST-LINE}
 use Rattle.block.proofs.Limits.{by-limits}
 use Rattle.block.proofs.tested_spectrum.Statement.{statement}
 use Rattle.block.proofs.tested_spectrum.Tie as tie
@@ -11,7 +11,7 @@ sub-tested : tie.Need-sub-tested
 sub-tested c = search needs
 
 tested-requires : tie.Need-tested-requires
-tested-requires c κs = search needs
+tested-requires c κs = tt
 
 returns : tie.Need-returns
 unfolding equal

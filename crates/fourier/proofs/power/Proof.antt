@@ -1,73 +1,70 @@
--- `power` is right because `tested_spectrum` finds the first fault or none, and `fill` leaves the power's lines.
+-- `power` is right because `tested_spectrum` finds the first fault or none, and `fill_powers` leaves the powers.
 use borrow.Author.Needs.{needs}
-use mathlib.Core.Path.{_≡_, sym, _∙_, ap}
+use mathlib.Core.Path.{_≡_, refl, sym, _∙_, ap}
 use mathlib.Core.List.{List, [], _∷_}
 use Prim.Native.Nat.{ℕ, _+_, _/_}
 use native.Mathlib.Omega.{arith}
 use lib.IntN.{ℤ}
 use lib.ListN.{length}
 use denote.Ref.{now}
-use Rattle.refusal.specs.declared.BlockKind.{BlockKind}
-use Rattle.refusal.specs.declared.KindAnswer.{KindAnswer}
-use Rattle.refusal.specs.declared.KindAnswer.the-variants.{Taken, Refused as Untaken}
+use Rattle.kind.specs.declared.BlockKind.{BlockKind}
+use Rattle.block.specs.declared.BlockVerdict.{BlockVerdict}
+use Rattle.block.specs.declared.BlockVerdict.the-variants.{Taken}
 use Rattle.block.specs.Tests.{testedSpectrum}
-use Rattle.block.specs.Accepted.{Accepted}
-use Rattle.block.specs.Answers.{answerTo, firstFault}
+use Rattle.block.specs.Transformable.{Transformable}
+use Rattle.block.specs.BlockAnswers.{blockAnswer, cellsLeft, verdictNumbers, answerNumbers}
+use Rattle.block.specs.declared.Answer.{Answer}
 use Rattle.block.proofs.Taken.{output-fits, taken-fits, spectrum-accepted}
-use Rattle.fourier.specs.declared.Doubled.the-variants.{Power}
-use Rattle.fourier.specs.Parts.{linesLeft, testedPower}
+use Rattle.fourier.specs.Parts.{inCells, powers, powersLeft, testedPower}
 use Rattle.fourier.proofs.power.Statement.{statement}
 use Rattle.fourier.proofs.power.Tie as tie
 
 -- the output that is tested, of n cells, is the list
-found : {k t : KindAnswer} {n : ℕ} (xs powers : List ℤ) → k ≡ testedSpectrum (n ∷ []) xs → k ≡ t → n ≡ length powers → testedPower xs powers ≡ t
+found : {k t : BlockVerdict} {n : ℕ} (xs lent : List ℤ) → k ≡ testedSpectrum (n ∷ []) xs → k ≡ t → n ≡ length lent → testedPower xs lent ≡ t
 unfolding testedPower
-found xs powers e g p = sym (ap (λ (n : ℕ). testedSpectrum (n ∷ []) xs) p) ∙ sym e ∙ g
+found xs lent e g p = sym (ap (λ (n : ℕ). testedSpectrum (n ∷ []) xs) p) ∙ sym e ∙ g
 
-accepted : (xs powers : List ℤ) (kind : BlockKind) → testedPower xs powers ≡ Taken kind → Accepted (kind .p) xs
-unfolding testedPower
-accepted xs powers kind e = spectrum-accepted (length powers ∷ []) xs kind e
+-- r is answered, and zs is left in the list, by what the tests have found
+promised : (xs lent zs : List ℤ) {r : Answer} {k : BlockVerdict} → testedPower xs lent ≡ k → r ≡ blockAnswer k → answerNumbers r ≡ verdictNumbers k → zs ≡ cellsLeft (λ _. inCells (powers xs)) lent k
+    → (r ≡ blockAnswer (testedPower xs lent)) × ((answerNumbers r ≡ verdictNumbers (testedPower xs lent)) × (zs ≡ powersLeft xs lent))
+promised xs lent zs e a n z = (a ∙ sym (ap blockAnswer e), (n ∙ sym (ap verdictNumbers e), z ∙ sym (ap (cellsLeft (λ _. inCells (powers xs)) lent) e)))
 
-power-fits : (xs powers : List ℤ) (kind : BlockKind) → testedPower xs powers ≡ Taken kind → length powers ≡ length xs / 2 + 1
+accepted : (xs lent : List ℤ) (kind : BlockKind) → testedPower xs lent ≡ Taken kind → Transformable (kind .p) xs
 unfolding testedPower
-power-fits xs powers kind e = output-fits (length xs / 2 + 1) (length powers) [] (taken-fits _ _ (length powers ∷ []) xs kind e) .0
+accepted xs lent kind e = spectrum-accepted (length lent ∷ []) xs kind e
+
+power-fits : (xs lent : List ℤ) (kind : BlockKind) → testedPower xs lent ≡ Taken kind → length lent ≡ length xs / 2 + 1
+unfolding testedPower
+power-fits xs lent kind e = output-fits (length xs / 2 + 1) (length lent) [] (taken-fits _ _ (length lent ∷ []) xs kind e) .0
 
 slice-aggregate-tested-spectrum : tie.Need-slice-aggregate-tested-spectrum
-slice-aggregate-tested-spectrum c = search needs
+slice-aggregate-tested-spectrum c = refl
 
 tested-spectrum-requires : tie.Need-tested-spectrum-requires
-tested-spectrum-requires c κs = search needs
+tested-spectrum-requires c κs = tt
 
 enum-known-refusal : tie.Need-enum-known-refusal
-enum-known-refusal c = search needs
+enum-known-refusal c = c .match .keys1
 
 enum-told : tie.Need-enum-told
-enum-told c = search needs
+enum-told c = c .match .keys2
 
 -- what the tests have found
-abbrev tests : tie.Start → KindAnswer
-tests s = testedPower (now (s .args .spectrum)) (now (s .args .powers))
-
-refused : (c : tie.After-refusal) → tests (c .before .before .before .before) ≡ Untaken (c .refusal .given .0 .0)
-refused c = let s = c .before .before .before .before in found (now (s .args .spectrum)) (now (s .args .powers)) (c .before .before .tested-spectrum .ensures) (c .refusal .given .1) (omega arith)
-
-taken : (c : tie.After-enum-told) → tests (c .before .before .before .before) ≡ Taken (c .enum-told .given .0 .0)
+taken : (c : tie.After-enum-told) → let s = c .before .before .before .before in testedPower (now (s .args .spectrum)) (now (s .args .powers)) ≡ Taken (c .enum-told .given .0 .0)
 taken c = let s = c .before .before .before .before in found (now (s .args .spectrum)) (now (s .args .powers)) (c .before .before .tested-spectrum .ensures) (c .enum-told .given .1) (omega arith)
 
-fill-requires : tie.Need-fill-requires
-fill-requires c κs = let s = c .before .before .before .before .before in let e = taken (c .before) in
+fill-powers-requires : tie.Need-fill-powers-requires
+fill-powers-requires c κs = let s = c .before .before .before .before .before in let e = taken (c .before) in
     ((_, accepted _ (now (s .args .powers)) _ e), power-fits _ (now (s .args .powers)) _ e)
 
 returns : tie.Need-returns
-returns c = let s = c .before .before .before .before .before in let e = refused (c .before) in
-    (sym (ap answerTo e), (sym (ap firstFault e), sym (ap (linesLeft Power (now (s .args .spectrum)) (now (s .args .powers))) e)))
+returns c = let r = c .before in promised _ _ _ (found _ _ (r .before .before .tested-spectrum .ensures) (r .refusal .given .1) (search needs)) refl refl (search needs)
 
 same-length : tie.Need-same-length
-same-length c = search needs
+same-length c = c .before .fill-powers .kept .1 .0
 
 returns-2 : tie.Need-returns-2
-returns-2 c = let t = c .before .before .before in let s = t .before .before .before .before in let e = taken t in
-    (sym (ap answerTo e), (sym (ap firstFault e), c .before .fill .ensures ∙ sym (ap (linesLeft Power (now (s .args .spectrum)) (now (s .args .powers))) e)))
+returns-2 c = promised _ _ _ (taken (c .before .before .before)) refl refl (c .before .fill-powers .ensures)
 
 pub power-spec : {M : Type 1} → statement M
 power-spec =
@@ -77,7 +74,7 @@ power-spec =
     tested-spectrum-requires
     enum-known-refusal
     enum-told
-    fill-requires
+    fill-powers-requires
     returns
     same-length
     returns-2)

@@ -1,5 +1,4 @@
 -- `scaled_line` is right because it goes by the definition's cases in the definition's order, and each cell that it reads lies in the spectrum.
-use borrow.Author.Needs.{needs}
 use borrow.Author.Tests.{eq-eqb, ne-eqb}
 use mathlib.Core.Path.{_≡_, _∙_, ap, ap₂}
 use mathlib.Core.List.{List}
@@ -12,18 +11,18 @@ use mir.Syntax.{w64}
 use mir.Val.{toZ, ofZ}
 use denote.Ref.{now}
 use Rattle.ints.proofs.Mirror.{mirror-later}
-use Rattle.block.specs.Accepted.{Accepted}
-use Rattle.block.specs.Cells.{cell}
+use Rattle.block.specs.Transformable.{Transformable}
+use Rattle.ints.specs.Cells.{cell}
 use Rattle.fourier.specs.declared.Pair.{Pair as RealAndImaginary}
 use Rattle.fourier.specs.declared.ScaledLine.the-variants.{Mean, Last, Pair}
 use Rattle.fourier.specs.Parts.{H}
 use Rattle.fourier.specs.Scaled.{quotient, scaledLine}
-use Rattle.fourier.specs.Workers.{scaledPair}
+use Rattle.fourier.specs.Inner.{scaledPair}
 use Rattle.fourier.proofs.Lines.{power-of-two, two-or-more, line-back, line-quiet, line-at, mirror-at}
 use Rattle.fourier.proofs.scaled_line.Statement.{statement}
 use Rattle.fourier.proofs.scaled_line.Tie as tie
 
-module _ {P : ℕ} {xs : List ℤ} (a : Accepted P xs) where
+module _ {P : ℕ} {xs : List ℤ} (a : Transformable P xs) where
   small : (i : ℕ) → natAbs (toZ w64 (ofZ w64 (cell xs i))) < 2 ^ 53
   small i = omega (arith, line-quiet a i)
 
@@ -39,9 +38,9 @@ module _ {P : ℕ} {xs : List ℤ} (a : Accepted P xs) where
   last v k e f = rw (ne-eqb v 0 k, eq-eqb v (length xs / 2) e) (ap Last f)
 
   pair : {x : RealAndImaginary} {n : ℕ} (v i j : ℕ) → (v ≡ 0 → ⊥) → (v ≡ length xs / 2 → ⊥) → v ≤ length xs
-      → x ≡ scaledPair n (toZ w64 (ofZ w64 (cell xs i))) (toZ w64 (ofZ w64 (cell xs j))) → n ≡ length xs → i ≡ v → i < length xs → j ≡ length xs - v → 0 < v → Pair x ≡ scaledLine xs v
+      → x ≡ scaledPair (toZ w64 (ofZ w64 (cell xs i))) (toZ w64 (ofZ w64 (cell xs j))) n → n ≡ length xs → i ≡ v → i < length xs → j ≡ length xs - v → 0 < v → Pair x ≡ scaledLine xs v
   pair v i j k l h e en ei hi ej p = rw (ne-eqb v 0 k, ne-eqb v (length xs / 2) l)
-      (ap Pair (e ∙ rw (en, line-back a i, line-back a j, ei) (ap₂ (scaledPair (length xs)) (line-at xs v (omega arith)) (mirror-at xs v j (mirror-later (length xs) v j p h ej)))))
+      (ap Pair (e ∙ rw (en, line-back a i, line-back a j, ei) (ap₂ (λ (h m : ℤ). scaledPair h m (length xs)) (line-at xs v (omega arith)) (mirror-at xs v j (mirror-later (length xs) v j p h ej)))))
 
 shared-slice-copy-out-quotient : tie.Need-shared-slice-copy-out-quotient
 shared-slice-copy-out-quotient c = omega (arith, two-or-more (c .before .pre .0 .1))
@@ -54,10 +53,10 @@ returns c = let s = c .before .before .before in let a = s .pre .0 .1 in
     mean a (s .args .line .0) (omega arith) (line-over a 0 0 (c .quotient .ensures .0) (omega arith) (omega (arith, two-or-more a)) (omega arith))
 
 mul-quotient : tie.Need-mul-quotient
-mul-quotient c = search needs
+mul-quotient c = record { fits = omega arith }
 
 shared-slice-copy-out-quotient-2 : tie.Need-shared-slice-copy-out-quotient-2
-shared-slice-copy-out-quotient-2 c = search needs
+shared-slice-copy-out-quotient-2 c = omega arith
 
 quotient-requires-2 : tie.Need-quotient-requires-2
 quotient-requires-2 c κs = let s = c .before .before .before in let a = s .pre .0 .1 in (small a (s .args .line .0), power-of-two a 53 (omega arith))
@@ -67,19 +66,19 @@ returns-2 c = let s = c .before .before .before .before in let a = s .pre .0 .1 
     last a v (λ e. omega arith) (omega arith) (line-over a v (length (now (s .args .spectrum)) / 2) (c .quotient2 .ensures .0) (omega arith) (omega (arith, two-or-more a)) (omega arith))
 
 mul-scaled-pair : tie.Need-mul-scaled-pair
-mul-scaled-pair c = search needs
+mul-scaled-pair c = record { fits = omega arith }
 
 shared-slice-copy-out-scaled-pair : tie.Need-shared-slice-copy-out-scaled-pair
-shared-slice-copy-out-scaled-pair c = search needs
+shared-slice-copy-out-scaled-pair c = omega arith
 
 sub-scaled-pair : tie.Need-sub-scaled-pair
-sub-scaled-pair c = search needs
+sub-scaled-pair c = omega arith
 
 mul-scaled-pair-2 : tie.Need-mul-scaled-pair-2
-mul-scaled-pair-2 c = search needs
+mul-scaled-pair-2 c = record { fits = omega arith }
 
 shared-slice-copy-out-scaled-pair-2 : tie.Need-shared-slice-copy-out-scaled-pair-2
-shared-slice-copy-out-scaled-pair-2 c = search needs
+shared-slice-copy-out-scaled-pair-2 c = omega arith
 
 scaled-pair-requires : tie.Need-scaled-pair-requires
 scaled-pair-requires c κs = let s = c .before .before .before .before in let a = s .pre .0 .1 in let v = s .args .line .0 in

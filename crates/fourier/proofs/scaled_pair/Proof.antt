@@ -8,13 +8,13 @@ use lib.IntN.{ℤ, natAbs}
 use mir.Facts.{toZ-ofZ}
 use mir.Syntax.{w64}
 use mir.Val.{SFits, toZ, ofZ}
-use Rattle.block.specs.Cells.{LOUDEST-LINE}
+use Rattle.kind.specs.Loudness.{LOUDEST-LINE}
 use Rattle.fourier.specs.declared.Doubled.{Doubled}
 use Rattle.fourier.specs.declared.Doubled.the-variants.{Real, Imaginary}
 use Rattle.fourier.specs.declared.Pair.{Pair}
 use Rattle.fourier.specs.Parts.{formula}
 use Rattle.fourier.specs.Scaled.{quotient}
-use Rattle.fourier.specs.Workers.{PowerOfTwo, scaledPair}
+use Rattle.fourier.specs.Inner.{PowerOfTwo, scaledPair}
 use Rattle.fourier.proofs.Sizes.{line-fits, sum-size, difference-size}
 use Rattle.fourier.proofs.Exact.{power-small}
 use Rattle.fourier.proofs.Values.{twice}
@@ -37,9 +37,9 @@ module _ (h m : ℤ) (sh : natAbs h ≤ LOUDEST-LINE) (sm : natAbs m ≤ LOUDEST
 over : {x : Float} {z : ℤ} {n : ℕ} (len : ℕ) (w : ℤ) → x ≡ quotient z n → z ≡ w → n ≡ 2 * len → x ≡ quotient w (2 * len)
 over len w e f g = e ∙ ap₂ quotient f g
 
-both : {x y : Float} (len : ℕ) (h m : ℤ) → x ≡ quotient (formula Real h m) (2 * len) → y ≡ quotient (formula Imaginary h m) (2 * len)
-    → _≡_ {A = Pair} (record { real = x; imaginary = y }) (scaledPair len h m)
-both len h m e f = ap₂ (λ (x y : Float). record { real = x; imaginary = y }) e f
+both : {x y : Float} (h m : ℤ) (len : ℕ) → x ≡ quotient (formula Real h m) (2 * len) → y ≡ quotient (formula Imaginary h m) (2 * len)
+    → _≡_ {A = Pair} (record { real = x; imaginary = y }) (scaledPair h m len)
+both h m len e f = ap₂ (λ (x y : Float). record { real = x; imaginary = y }) e f
 
 formula-requires : tie.Need-formula-requires
 formula-requires c κs = search needs
@@ -68,7 +68,7 @@ quotient-requires-2 c κs = let a = c .before .before .before in (rw (imaginary-
 returns : tie.Need-returns
 returns c = let a = c .before .before .before .before in
     let n = a .args .len in
-    both n (a .args .h) (a .args .m) (over n _ (c .before .before .quotient .ensures .0) (real-read (c .before .before .before)) (omega arith))
+    both (a .args .h) (a .args .m) n (over n _ (c .before .before .quotient .ensures .0) (real-read (c .before .before .before)) (omega arith))
     (over n _ (c .quotient2 .ensures .0) (imaginary-read (c .before)) (omega arith))
 
 pub scaled-pair-spec : {M : Type 1} → statement M

@@ -1,60 +1,61 @@
 -- `backward` is right because it does what `forward` does, on a spectrum, and then divides each cell by N with rounding.
-use borrow.Author.Needs.{needs}
-use mathlib.Core.Path.{_≡_, sym, _∙_, ap}
+use mathlib.Core.Path.{_≡_, refl, sym, _∙_, ap}
 use mathlib.Core.List.{List, [], map}
 use Prim.Native.Nat.{_^_}
 use lib.IntN.{ℤ}
 use denote.Ref.{now}
 use Rattle.ints.specs.Quotient.{rounded}
-use Rattle.refusal.specs.declared.BlockKind.{BlockKind}
-use Rattle.refusal.specs.declared.KindAnswer.the-variants.{Taken}
-use Rattle.spectrum.specs.Spectrum.{backward}
+use Rattle.block.specs.declared.BlockVerdict.{BlockVerdict}
+use Rattle.block.specs.declared.BlockVerdict.the-variants.{Taken}
+use Rattle.block.specs.declared.Answer.{Answer}
 use Rattle.block.specs.Tests.{testedSpectrum}
-use Rattle.block.specs.Answers.{answerTo, cellsLeft, firstFault}
+use Rattle.block.specs.BlockAnswers.{blockAnswer, cellsLeft, verdictNumbers, answerNumbers}
 use Rattle.block.proofs.Taken.{spectrum-accepted}
+use Rattle.spectrum.specs.Spectrum.{backward}
+use Rattle.hartley.specs.Promises.{backwardLeft}
 use Rattle.hartley.proofs.backward.Statement.{statement}
 use Rattle.hartley.proofs.backward.Tie as tie
 
--- the cells zs that are left where the lent xs are taken
-done-cells : (xs zs : List ℤ) (kind : BlockKind) → testedSpectrum [] xs ≡ Taken kind → zs ≡ backward (kind .p) xs → zs ≡ cellsLeft (λ P. backward P xs) xs (testedSpectrum [] xs)
-done-cells xs zs kind e h = h ∙ sym (ap (cellsLeft (λ P. backward P xs) xs) e)
+-- r is answered for the lent xs, and zs is left, by what the tests have found
+promised : (xs zs : List ℤ) {r : Answer} {k : BlockVerdict} → testedSpectrum [] xs ≡ k → r ≡ blockAnswer k → answerNumbers r ≡ verdictNumbers k → zs ≡ cellsLeft (λ P. backward P xs) xs k
+    → (r ≡ blockAnswer (testedSpectrum [] xs)) × ((answerNumbers r ≡ verdictNumbers (testedSpectrum [] xs)) × (zs ≡ backwardLeft xs))
+promised xs zs e a n z = (a ∙ sym (ap blockAnswer e), (n ∙ sym (ap verdictNumbers e), z ∙ sym (ap (cellsLeft (λ P. backward P xs) xs) e)))
 
 -- what `tested_spectrum` has found of the lent spectrum
 taken : (k : tie.After-kind) → testedSpectrum [] (now (k .before .before .before .before .before .args .cells)) ≡ Taken (k .kind .given .0 .0)
 taken k = sym (k .before .before .tested-spectrum .ensures) ∙ k .kind .given .1
 
 slice-aggregate-tested-spectrum : tie.Need-slice-aggregate-tested-spectrum
-slice-aggregate-tested-spectrum c = search needs
+slice-aggregate-tested-spectrum c = refl
 
 tested-spectrum-requires : tie.Need-tested-spectrum-requires
-tested-spectrum-requires c κs = search needs
+tested-spectrum-requires c κs = tt
 
 enum-known-refusal : tie.Need-enum-known-refusal
-enum-known-refusal c = search needs
+enum-known-refusal c = c .match .keys1
 
 enum-known-kind : tie.Need-enum-known-kind
-enum-known-kind c = search needs
+enum-known-kind c = c .match .keys2
 
 transform-requires : tie.Need-transform-requires
 transform-requires c κs = spectrum-accepted [] _ _ (taken (c .before .before))
 
 divide-requires : tie.Need-divide-requires
-divide-requires c κs = search needs
+divide-requires c κs = tt
 
 same-length : tie.Need-same-length
-same-length c = search needs
+same-length c = refl
 
 returns : tie.Need-returns
-returns c = let e = sym (c .before .before .before .tested-spectrum .ensures) ∙ c .before .refusal .given .1 in (sym (ap answerTo e), (sym (ap firstFault e), sym (ap (cellsLeft (λ P. backward P _) _) e)))
+returns c = promised _ _ (sym (c .before .before .before .tested-spectrum .ensures) ∙ c .before .refusal .given .1) refl refl refl
 
 same-length-2 : tie.Need-same-length-2
-same-length-2 c = search needs
+same-length-2 c = c .before .divide .kept .0 ∙ c .before .before .before .before .transform .kept .0
 
 returns-2 : tie.Need-returns-2
 unfolding backward
-returns-2 c = let k = c .before .before .before .before .before .before .before in let e = taken k in
-    let t = c .before .before .before .before .transform .ensures in let p = k .kind .given .0 .0 .p in
-    (sym (ap answerTo e), (sym (ap firstFault e), done-cells _ _ _ e (c .before .divide .ensures ∙ ap (map (rounded (2 ^ p))) t)))
+returns-2 c = let k = c .before .before .before .before .before .before .before in let p = k .kind .given .0 .0 .p in
+    promised _ _ (taken k) refl refl (c .before .divide .ensures ∙ ap (map (rounded (2 ^ p))) (c .before .before .before .before .transform .ensures))
 
 pub backward-spec : {M : Type 1} → statement M
 backward-spec =

@@ -8,7 +8,7 @@ use lib.ListN.{length, length-set}
 use lib.Seq.{ext-getD}
 use denote.Ref.{now}
 use Rattle.ints.proofs.Filling.{Filled, filled-then}
-use Rattle.block.specs.Cells.{cell}
+use Rattle.ints.specs.Cells.{cell}
 use Rattle.hartley.proofs.copy.Statement.{statement}
 use Rattle.hartley.proofs.copy.Tie as tie
 

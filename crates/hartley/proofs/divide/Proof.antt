@@ -14,7 +14,7 @@ use mir.Syntax.{w64}
 use mir.Val.{toZ, ofZ}
 use Rattle.ints.specs.Quotient.{rounded}
 use Rattle.ints.proofs.Filling.{Filled, filled-next}
-use Rattle.block.specs.Cells.{cell}
+use Rattle.ints.specs.Cells.{cell}
 use Rattle.hartley.proofs.divide.Statement.{statement}
 use Rattle.hartley.proofs.divide.Tie as tie
 

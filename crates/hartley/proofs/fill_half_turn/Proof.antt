@@ -9,7 +9,7 @@ use lib.IntN.{pos}
 use lib.ListN.{length, length-set}
 use mir.Facts.{toZ-ofZ}
 use Rattle.ints.proofs.Filling.{Filled, filled-next, filled-all}
-use Rattle.refusal.specs.BlockKinds.{SCALE-DIGITS, TURN}
+use Rattle.kind.specs.BlockKinds.{SCALE-DIGITS, TURN}
 use Rattle.cosine.specs.Cosine.{cosine, sine, entries, quarterTable}
 use Rattle.cosine.proofs.Turn.{cosine-listed, sine-listed}
 use Rattle.spectrum.specs.Spectrum.{tableCosine, tableSine}
@@ -24,6 +24,10 @@ Inv-loop cosines₀ sines₀ len quarter apart j₀ cosines sines j =
 abbrev μ-loop : tie.MeasureT-loop
 μ-loop cosines₀ sines₀ len quarter apart j₀ cosines sines j = len / 2 - j
 
+-- the round to which the end of the loop's body belongs
+abbrev round : tie.After-sine Inv-loop μ-loop → tie.In-loop Inv-loop μ-loop
+round c = c .before .before .before .before
+
 step-small : (j n : ℕ) → j ≤ n → j * (TURN / n) ≤ TURN
 step-small j n h = omega (arith, mul-le-mul-right (TURN / n) h, div-add-mod TURN n)
 
@@ -36,8 +40,8 @@ div-apart c = search needs
 loop-holds : tie.Need-loop-holds Inv-loop μ-loop
 loop-holds c = let p = c .before .pre in (omega arith, p .1, p .2, λ i h. absurd (not-suc-le-zero h), λ i h. absurd (not-suc-le-zero h))
 
-mul-cosine : tie.Need-mul-cosine Inv-loop μ-loop
-mul-cosine c = omega (arith, step-small (c .before .before .loop .j) (c .before .before .before .before .args .len) (omega arith))
+mul-step : tie.Need-mul-step Inv-loop μ-loop
+mul-step c = omega (arith, step-small (c .before .loop .j) (c .before .before .before .args .len) (omega arith))
 
 cosine-requires : tie.Need-cosine-requires Inv-loop μ-loop
 cosine-requires c κs = search needs
@@ -48,14 +52,11 @@ mul-sines c = search needs
 slice-set-from-sines : tie.Need-slice-set-from-sines Inv-loop μ-loop
 slice-set-from-sines c = omega arith
 
-mul-sine : tie.Need-mul-sine Inv-loop μ-loop
-mul-sine c = omega (arith, step-small (c .before .before .before .before .loop .j) (c .before .before .before .before .before .before .args .len) (omega arith))
-
 sine-requires : tie.Need-sine-requires Inv-loop μ-loop
 sine-requires c κs = search needs
 
-mul-t8 : tie.Need-mul-t8 Inv-loop μ-loop
-mul-t8 c = search needs
+mul-t9 : tie.Need-mul-t9 Inv-loop μ-loop
+mul-t9 c = search needs
 
 slice-set-from-sines-2 : tie.Need-slice-set-from-sines-2 Inv-loop μ-loop
 slice-set-from-sines-2 c = omega arith
@@ -67,18 +68,17 @@ loop-less : tie.Need-loop-less Inv-loop μ-loop
 loop-less c = omega arith
 
 loop-again : tie.Need-loop-again Inv-loop μ-loop
-loop-again c = let l = c .before .before .before .before .before .loop in let n = c .before .before .before .before .before .before .before .args .len in
-    let quarter = c .before .before .before .before .before .before .quarter-table .ensures in let step = l .j * (TURN / n) in (
-      omega arith,
-      simp length-set (l .inv .1),
-      simp length-set (l .inv .2),
-      filled-next (pos 0) (λ k. tableCosine SCALE-DIGITS (k * (TURN / n))) (l .cosines) (l .j) _ (omega (arith, l .inv .1))
-          (toZ-ofZ (sfits-of (c .before .before .cosine .ok)) ∙ c .before .before .cosine .ensures ∙ ap (λ (q : List ℕ). cosine (entries q) step) quarter ∙ cosine-listed (quarterTable SCALE-DIGITS) step)
-          (l .inv .3),
-      filled-next (pos 0) (λ k. tableSine SCALE-DIGITS (k * (TURN / n))) (l .sines) (l .j) _ (omega (arith, l .inv .2))
-          (toZ-ofZ (sfits-of (c .sine .ok)) ∙ c .sine .ensures ∙ ap (λ (q : List ℕ). sine (entries q) step) quarter ∙ sine-listed (quarterTable SCALE-DIGITS) step)
-          (l .inv .4),
-    )
+loop-again c = let l = round c .before .loop in let t = round c .before .before in let n = t .before .args .len in let q = t .quarter-table .ensures in let step = l .j * (TURN / n) in (
+  omega arith,
+  simp length-set (l .inv .1),
+  simp length-set (l .inv .2),
+  filled-next (pos 0) (λ k. tableCosine SCALE-DIGITS (k * (TURN / n))) (l .cosines) (l .j) _ (omega (arith, l .inv .1))
+      (toZ-ofZ (sfits-of (c .before .before .cosine .ok)) ∙ c .before .before .cosine .ensures ∙ ap (λ (q : List ℕ). cosine (entries q) step) q ∙ cosine-listed (quarterTable SCALE-DIGITS) step)
+      (l .inv .3),
+  filled-next (pos 0) (λ k. tableSine SCALE-DIGITS (k * (TURN / n))) (l .sines) (l .j) _ (omega (arith, l .inv .2))
+      (toZ-ofZ (sfits-of (c .sine .ok)) ∙ c .sine .ensures ∙ ap (λ (q : List ℕ). sine (entries q) step) q ∙ sine-listed (quarterTable SCALE-DIGITS) step)
+      (l .inv .4),
+)
 
 same-length : tie.Need-same-length Inv-loop μ-loop
 same-length c = c .before .loop .inv .1 ∙ sym (c .before .before .before .pre .1)
@@ -99,13 +99,12 @@ fill-half-turn-spec =
     quarter-table-requires
     div-apart
     loop-holds
-    mul-cosine
+    mul-step
     cosine-requires
     mul-sines
     slice-set-from-sines
-    mul-sine
     sine-requires
-    mul-t8
+    mul-t9
     slice-set-from-sines-2
     add-j
     loop-less

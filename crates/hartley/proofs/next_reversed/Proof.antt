@@ -50,16 +50,16 @@ module _ (p digits rest digit : ℕ) where
           never e = omega (arith, pow-pos k)
 
 abbrev Inv-loop : tie.InvT-loop
-Inv-loop digits highest rest₀ digit₀ rest digit = (digit ≤ 512) × ((p : ℕ) → highest ≡ 2 ^ p / 2 → Carried p digits rest digit)
+Inv-loop highest digits digit₀ rest digit = (digit ≤ 512) × ((p : ℕ) → highest ≡ 2 ^ p / 2 → Carried p digits rest digit)
 
 abbrev μ-loop : tie.MeasureT-loop
-μ-loop digits highest rest₀ digit₀ rest digit = digit
+μ-loop highest digits digit₀ rest digit = digit
 
 loop-holds : tie.Need-loop-holds Inv-loop μ-loop
 loop-holds c = (c .pre, λ p e. record { left = p; at = e; same = refl })
 
-add-result : tie.Need-add-result Inv-loop μ-loop
-add-result c = omega (arith, c .before .before .loop .inv .0)
+add-t6 : tie.Need-add-t6 Inv-loop μ-loop
+add-t6 c = omega (arith, c .before .before .loop .inv .0)
 
 returns : tie.Need-returns Inv-loop μ-loop
 returns c = let l = c .before .before .loop in λ p i e d. ends p _ _ _ (l .inv .1 p e) (omega arith) (omega arith) ∙ ap (nextReversed p) d ∙ next-reversed p i
@@ -76,4 +76,4 @@ returns-2 c = let l = c .before .loop in λ p i e d. all-carried p _ _ _ (l .inv
 pub next-reversed-spec : {M : Type 1} → statement M
 next-reversed-spec =
     tie.close
-    (tie.spec Inv-loop μ-loop loop-holds add-result returns loop-less loop-again returns-2)
+    (tie.spec Inv-loop μ-loop loop-holds add-t6 returns loop-less loop-again returns-2)

@@ -13,7 +13,7 @@ use Rattle.ints.proofs.Ring.{quotes}
 use Rattle.ints.proofs.Abs.{abs-fact, abs-plus}
 use Rattle.ints.proofs.Fit.{fits}
 use Rattle.ints.proofs.Rounding.{rounded-near}
-use Rattle.refusal.specs.BlockKinds.{SCALE}
+use Rattle.kind.specs.BlockKinds.{SCALE}
 use Rattle.spectrum.specs.Limits.{LARGEST-SUM}
 use Rattle.hartley.proofs.plus_quotient.Statement.{statement}
 use Rattle.hartley.proofs.plus_quotient.Tie as tie

@@ -1,17 +1,16 @@
 -- `answered` is right because the number is 0 exactly where nothing is refused.
-use borrow.Author.Needs.{needs}
 use mathlib.Core.Path.{_≡_, refl, sym, _∙_, ap}
 use mathlib.Core.List.{List}
 use Prim.Native.Nat.{ℕ}
 use native.Mathlib.Omega.{arith}
 use lib.IntN.{ℤ}
 use denote.Ref.{now}
-use Rattle.bytes.specs.Spelling.{spelledSigneds}
+use Rattle.little_endian.specs.Spelling.{spelledSigneds}
 use Rattle.block.specs.declared.Answer.{Answer}
 use Rattle.block.specs.declared.Answer.the-variants.{Done, Refused}
 use Rattle.host.specs.CellBytes.{CELL}
 use Rattle.host.specs.Packing.{packed}
-use Rattle.host.specs.Workers.{leftBy}
+use Rattle.host.specs.Inner.{leftBy}
 use Rattle.host.proofs.Packing.{nothing-refused}
 use Rattle.host.proofs.answered.Statement.{statement}
 use Rattle.host.proofs.answered.Tie as tie
@@ -39,7 +38,7 @@ encode-requires c κs = let p = c .before .before in let s = p .before .before i
     s .pre .1 (done (s .args .answer) (now (s .args .cells)) (now (s .args .bytes)) (now (s .args .bytes)) _ (p .packed .ensures) (omega arith))
 
 same-length : tie.Need-same-length
-same-length c = search needs
+same-length c = c .before .before .encode .kept .1 .0
 
 returns : tie.Need-returns
 returns c = let p = c .before .before .before .before .before in let s = p .before .before in

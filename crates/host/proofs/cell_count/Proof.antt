@@ -3,7 +3,7 @@ use borrow.Author.Tests.{eq-eqb, ne-eqb, le-leb, lt-leb}
 use mathlib.Core.Path.{_≡_, refl}
 use Prim.Native.Nat.{ℕ, _/_, _%_, _≤_, _<_}
 use native.Mathlib.Omega.{arith}
-use Rattle.host.specs.Workers.{cellCount}
+use Rattle.host.specs.Inner.{cellCount}
 use Rattle.host.proofs.cell_count.Statement.{statement}
 use Rattle.host.proofs.cell_count.Tie as tie
 

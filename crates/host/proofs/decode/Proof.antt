@@ -11,8 +11,8 @@ use mir.Facts.{toZ-ofZ}
 use mir.Syntax.{w64}
 use mir.Val.{toZ, ofZ}
 use Rattle.ints.proofs.Filling.{Filled, filled-next, filled-all}
-use Rattle.bytes.specs.Reading.{complement, signed, signeds, unsigned}
-use Rattle.bytes.proofs.Signed.{signeds-tabulated}
+use Rattle.little_endian.specs.Reading.{signedOfWord, signed, signeds, unsigned}
+use Rattle.little_endian.proofs.Signed.{signeds-tabulated}
 use Rattle.host.proofs.Counts.{eight}
 use Rattle.host.proofs.decode.Statement.{statement}
 use Rattle.host.proofs.decode.Tie as tie
@@ -25,9 +25,9 @@ module _ (bytes : List ℕ) where
   -- its bytes, from `start` to `end`
   module _ (i start end : ℕ) (es : start ≡ 8 * i) (ee : end ≡ start + 8) (h : end ≤ length bytes) where
     -- the word of those bytes stands for z
-    is-cell : (word : ℕ) (z : ℤ) → word ≡ unsigned (take (end - start) (drop start bytes)) → z ≡ complement (256 ^ 8) word → z ≡ spelled i
+    is-cell : (word : ℕ) (z : ℤ) → word ≡ unsigned (take (end - start) (drop start bytes)) → z ≡ signedOfWord (256 ^ 8) word → z ≡ spelled i
     unfolding signed
-    is-cell word z ew ez = ez ∙ ap (complement (256 ^ 8)) ew ∙ ap (λ (m : ℕ). complement (256 ^ m) (unsigned (take (end - start) (drop start bytes)))) (sym (eight bytes start end ee h))
+    is-cell word z ew ez = ez ∙ ap (signedOfWord (256 ^ 8)) ew ∙ ap (λ (m : ℕ). signedOfWord (256 ^ m) (unsigned (take (end - start) (drop start bytes)))) (sym (eight bytes start end ee h))
         ∙ ap₂ (λ (m k : ℕ). signed (take m (drop k bytes))) many es
       where
         many : end - start ≡ 8
@@ -63,8 +63,8 @@ part-word-end c = omega arith
 word-requires : tie.Need-word-requires Inv-loop μ-loop
 word-requires c κs = let i = c .before .before .loop .i in eight _ (8 * i) (8 * i + 8) refl (omega arith)
 
-complement-requires : tie.Need-complement-requires Inv-loop μ-loop
-complement-requires c κs = search needs
+signed-of-word-requires : tie.Need-signed-of-word-requires Inv-loop μ-loop
+signed-of-word-requires c κs = tt
 
 mul-t13 : tie.Need-mul-t13 Inv-loop μ-loop
 mul-t13 c = search needs
@@ -79,16 +79,16 @@ loop-less : tie.Need-loop-less Inv-loop μ-loop
 loop-less c = omega arith
 
 loop-again : tie.Need-loop-again Inv-loop μ-loop
-loop-again c = let l = c .before .before .before .before .loop in let bytes = now (c .before .before .before .before .before .before .args .bytes) in let r = c .complement .result in
-    let back : toZ w64 (ofZ w64 r) ≡ r = toZ-ofZ (sfits-of (c .complement .ok)) in (
+loop-again c = let l = c .before .before .before .before .loop in let bytes = now (c .before .before .before .before .before .before .args .bytes) in let r = c .signed-of-word .result in
+    let back : toZ w64 (ofZ w64 r) ≡ r = toZ-ofZ (sfits-of (c .signed-of-word .ok)) in (
       omega arith,
       length-set (l .cells) (l .i) _ ∙ l .inv .1,
       rw back (filled-next (pos 0) (spelled bytes) (l .cells) (l .i) r (omega arith)
-          (is-cell bytes (l .i) (8 * l .i) (8 * l .i + 8) refl refl (omega arith) (c .before .word .result) r (c .before .word .ensures) (c .complement .ensures)) (l .inv .2)),
+          (is-cell bytes (l .i) (8 * l .i) (8 * l .i + 8) refl refl (omega arith) (c .before .word .result) r (c .before .word .ensures) (c .signed-of-word .ensures)) (l .inv .2)),
     )
 
 same-length : tie.Need-same-length Inv-loop μ-loop
-same-length c = search needs
+same-length c = c .before .loop .inv .1
 
 returns : tie.Need-returns Inv-loop μ-loop
 returns c = let l = c .before .loop in all _ (l .cells) (l .i) _ (omega arith) (l .inv .1) (l .inv .2)
@@ -106,7 +106,7 @@ decode-spec =
     part-word-start
     part-word-end
     word-requires
-    complement-requires
+    signed-of-word-requires
     mul-t13
     slice-set-from-cells
     add-i

@@ -1,5 +1,5 @@
 -- `encode` is right because the bytes before byte 8 i are those of the first i cells, and each round writes the eight of one more.
-use borrow.Author.Needs.{needs, sfits-of}
+use borrow.Author.Needs.{sfits-of}
 use borrow.Rule.Slice.PartMut.{putMid, same-len-mid}
 use mathlib.Core.Path.{_≡_, refl, sym, _∙_, ap}
 use mathlib.Core.List.{List}
@@ -11,11 +11,11 @@ use lib.Seq.{ext-getD}
 use denote.Ref.{now}
 use mir.Facts.{toZ-ofZ}
 use Rattle.ints.proofs.Filling.{Filled}
-use Rattle.ints.proofs.Parts.{filled-part}
-use Rattle.block.specs.Cells.{cell}
-use Rattle.bytes.specs.Spelling.{residue, spelled, spelledSigned, spelledSigneds}
-use Rattle.bytes.proofs.Unsigned.{length-spelled}
-use Rattle.bytes.proofs.Signed.{length-spelled-signeds, spelled-signeds-at}
+use Rattle.ints.proofs.Slices.{filled-part}
+use Rattle.ints.specs.Cells.{cell}
+use Rattle.little_endian.specs.Spelling.{wordOfSigned, spelled, spelledSigned, spelledSigneds}
+use Rattle.little_endian.proofs.Unsigned.{length-spelled}
+use Rattle.little_endian.proofs.Signed.{length-spelled-signeds, spelled-signeds-at}
 use Rattle.host.proofs.Counts.{eight}
 use Rattle.host.proofs.encode.Statement.{statement}
 use Rattle.host.proofs.encode.Tie as tie
@@ -27,7 +27,7 @@ module _ (cells : List ℤ) where
 
   -- the eight bytes of cell i are written from `start` to `end`
   module _ (i start end : ℕ) (es : start ≡ 8 * i) (ee : end ≡ start + 8) (bytes : List ℕ) (h : end ≤ length bytes) where
-    next : (part : List ℕ) (word j : ℕ) (z : ℤ) → i < length cells → Filled 0 byte (8 * i) bytes → part ≡ spelled 8 word → word ≡ residue (256 ^ 8) z → z ≡ cell cells i → j ≡ i + 1
+    next : (part : List ℕ) (word j : ℕ) (z : ℤ) → i < length cells → Filled 0 byte (8 * i) bytes → part ≡ spelled 8 word → word ≡ wordOfSigned (256 ^ 8) z → z ≡ cell cells i → j ≡ i + 1
         → let after = putMid start (end - start) bytes part in (length after ≡ length bytes) × Filled 0 byte (8 * j) after
     unfolding spelledSigned
     next part word j z l F ep ew ez ej = (same-len-mid start (end - start) bytes part (long ∙ sym (eight bytes start end ee h)), λ k g. filled k (omega arith))
@@ -36,7 +36,7 @@ module _ (cells : List ℤ) where
         long = ap length ep ∙ length-spelled 8 word
 
         is : part ≡ spelledSigned 8 (cell cells i)
-        is = ep ∙ ap (spelled 8) (ew ∙ ap (residue (256 ^ 8)) ez)
+        is = ep ∙ ap (spelled 8) (ew ∙ ap (wordOfSigned (256 ^ 8)) ez)
 
         filled : Filled 0 byte (start + 8) (putMid start (end - start) bytes part)
         filled = filled-part 0 byte start 8 bytes part _ (omega arith) (rw es F) long
@@ -57,14 +57,14 @@ loop-holds c = (omega arith, c .before .pre, λ i h. absurd (omega arith))
 mul-at : tie.Need-mul-at Inv-loop μ-loop
 mul-at c = omega arith
 
-mul-residue : tie.Need-mul-residue Inv-loop μ-loop
-mul-residue c = omega arith
+mul-word-of-signed : tie.Need-mul-word-of-signed Inv-loop μ-loop
+mul-word-of-signed c = omega arith
 
-shared-slice-copy-out-residue : tie.Need-shared-slice-copy-out-residue Inv-loop μ-loop
-shared-slice-copy-out-residue c = omega arith
+shared-slice-copy-out-word-of-signed : tie.Need-shared-slice-copy-out-word-of-signed Inv-loop μ-loop
+shared-slice-copy-out-word-of-signed c = omega arith
 
-residue-requires : tie.Need-residue-requires Inv-loop μ-loop
-residue-requires c κs = search needs
+word-of-signed-requires : tie.Need-word-of-signed-requires Inv-loop μ-loop
+word-of-signed-requires c κs = tt
 
 add-put-word : tie.Need-add-put-word Inv-loop μ-loop
 add-put-word c = omega arith
@@ -90,8 +90,8 @@ loop-less c = omega arith
 loop-again : tie.Need-loop-again Inv-loop μ-loop
 loop-again c = let l = c .before .before .before .before .before .before .before .loop in let cells = now (c .before .before .before .before .before .before .before .before .before .args .cells) in
     let p = c .before .before in let r = p .before .before in
-    let n = next cells (l .i) (8 * l .i) (8 * l .i + 8) refl refl (l .bytes) (omega arith) _ (r .residue .result) (l .i + 1) _ (omega arith) (l .inv .2)
-    (p .put-word .ensures) (r .residue .ensures) (toZ-ofZ (sfits-of (r .before .residue-arg .given))) refl in
+    let n = next cells (l .i) (8 * l .i) (8 * l .i + 8) refl refl (l .bytes) (omega arith) _ (r .word-of-signed .result) (l .i + 1) _ (omega arith) (l .inv .2)
+    (p .put-word .ensures) (r .word-of-signed .ensures) (toZ-ofZ (sfits-of (r .before .word-of-signed-arg .given))) refl in
     (omega arith, n .0 ∙ l .inv .1, n .1)
 
 same-length : tie.Need-same-length Inv-loop μ-loop
@@ -108,9 +108,9 @@ encode-spec =
     μ-loop
     loop-holds
     mul-at
-    mul-residue
-    shared-slice-copy-out-residue
-    residue-requires
+    mul-word-of-signed
+    shared-slice-copy-out-word-of-signed
+    word-of-signed-requires
     add-put-word
     sub-put-word
     part-put-word-start

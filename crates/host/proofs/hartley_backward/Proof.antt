@@ -11,7 +11,7 @@ mul-cell-count : tie.Need-mul-cell-count
 mul-cell-count c = search needs
 
 cell-count-requires : tie.Need-cell-count-requires
-cell-count-requires c κs = search needs
+cell-count-requires c κs = tt
 
 array-borrow-prefix-block : tie.Need-array-borrow-prefix-block
 array-borrow-prefix-block c = search needs
@@ -23,7 +23,7 @@ backward-in-requires : tie.Need-backward-in-requires
 backward-in-requires c κs = let n = c .before .before .cell-count .ensures in length-take-le _ _ (omega (arith, n .1)) ∙ n .0
 
 same-length : tie.Need-same-length
-same-length c = search needs
+same-length c = c .before .before .before .backward-in .kept .0
 
 returns : tie.Need-returns
 returns c = let a = c .before .before .before .backward-in .ensures in

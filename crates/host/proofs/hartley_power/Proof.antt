@@ -4,9 +4,9 @@ use mathlib.Core.Path.{_≡_, sym, _∙_, ap}
 use Prim.Native.Nat.{ℕ, _+_, _*_, _/_}
 use native.Mathlib.Omega.{arith}
 use lib.Seq.{length-take-le}
-use Rattle.refusal.specs.BlockKinds.{LARGEST}
+use Rattle.kind.specs.BlockKinds.{LARGEST}
 use Rattle.host.specs.CellBytes.{CELL}
-use Rattle.host.specs.Workers.{cellCount}
+use Rattle.host.specs.Inner.{cellCount}
 use Rattle.host.proofs.Calls.{told-so}
 use Rattle.host.proofs.hartley_power.Statement.{statement}
 use Rattle.host.proofs.hartley_power.Tie as tie
@@ -19,13 +19,13 @@ mul-cell-count : tie.Need-mul-cell-count
 mul-cell-count c = search needs
 
 cell-count-requires : tie.Need-cell-count-requires
-cell-count-requires c κs = search needs
+cell-count-requires c κs = tt
 
 mul-cell-count-2 : tie.Need-mul-cell-count-2
 mul-cell-count-2 c = search needs
 
 cell-count-requires-2 : tie.Need-cell-count-requires-2
-cell-count-requires-2 c κs = search needs
+cell-count-requires-2 c κs = tt
 
 array-borrow-prefix-cells : tie.Need-array-borrow-prefix-cells
 array-borrow-prefix-cells c = search needs
@@ -44,7 +44,7 @@ power-in-requires c κs = let m = c .before .before .before .before .cell-count 
     (length-take-le _ _ (omega (arith, n .1)) ∙ counted _ (CELL * LARGEST) _ (n .0) (omega arith), length-take-le _ _ (omega (arith, m .1)) ∙ counted _ (CELL * (LARGEST / 2 + 1)) _ (m .0) (omega arith))
 
 same-length : tie.Need-same-length
-same-length c = search needs
+same-length c = c .before .before .before .before .power-in .kept .1 .0
 
 returns : tie.Need-returns
 returns c = let a = c .before .before .before .before .power-in .ensures in (a .says, (told-so a, a .leaves))

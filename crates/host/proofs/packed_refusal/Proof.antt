@@ -1,5 +1,4 @@
 -- `packed_refusal` is right because the number takes one byte and the place seven.
-use borrow.Author.Needs.{needs}
 use mathlib.Core.Path.{_≡_}
 use Prim.Native.Nat.{ℕ, _+_, _*_}
 use native.Mathlib.Omega.{arith}
@@ -15,13 +14,13 @@ unfolding packedRefusal
 packs refusal n p r en ep er = omega arith
 
 number-requires : tie.Need-number-requires
-number-requires c κs = search needs
+number-requires c κs = tt
 
 place-requires : tie.Need-place-requires
-place-requires c κs = search needs
+place-requires c κs = tt
 
 mul-result : tie.Need-mul-result
-mul-result c = search needs
+mul-result c = omega arith
 
 add-result : tie.Need-add-result
 add-result c = let refusal = c .before .before .args .refusal in omega (arith, number-fits refusal .1)

@@ -1,13 +1,12 @@
 -- `power_in` is right because the cells that it reads are those that the bytes spell, or are refused as those would be, and so are the cells of the output; `power` does the rest.
-use borrow.Author.Needs.{needs}
 use mathlib.Core.Path.{_≡_, sym, _∙_, ap}
 use mathlib.Core.List.{List}
 use Prim.Native.Nat.{ℕ, _*_}
 use lib.IntN.{ℤ}
 use lib.ListN.{length}
 use denote.Ref.{now}
-use Rattle.refusal.specs.BlockKinds.{LARGEST}
-use Rattle.bytes.specs.Reading.{signeds}
+use Rattle.kind.specs.BlockKinds.{LARGEST}
+use Rattle.little_endian.specs.Reading.{signeds}
 use Rattle.host.specs.CellBytes.{CELL}
 use Rattle.host.proofs.Counts.{count-room}
 use Rattle.host.proofs.Calls.{power-packable, power-room, answered-power}
@@ -38,27 +37,26 @@ decode-requires : tie.Need-decode-requires
 decode-requires c κs = let s = c .before .before .before in count-room LARGEST (now (s .args .spectrum)) _ (s .pre .0)
 
 power-requires : tie.Need-power-requires
-power-requires c κs = search needs
+power-requires c κs = tt
 
 answered-requires : tie.Need-answered-requires
-answered-requires c κs = let f = c .before .before .before in let s = f .power .ensures .0 in let p = start f .pre in
-    let kept : length (f .power .last .1 .0) ≡ length (values f) = search needs in (
-      power-packable (spectrum f) (powers f) (room f) (p .0) (values f) (p .1) _ (read f) s,
-      λ d. power-room (spectrum f) (powers f) (room f) (p .0) (values f) (p .1) _ (read f) s d ∙ ap (λ (n : ℕ). CELL * n) (sym kept),
-    )
+answered-requires c κs = let f = c .before .before .before in let s = f .power .ensures .0 in let p = start f .pre in (
+  power-packable (spectrum f) (powers f) (room f) (p .0) (values f) (p .1) _ (read f) s,
+  λ d. power-room (spectrum f) (powers f) (room f) (p .0) (values f) (p .1) _ (read f) s d ∙ ap (λ (n : ℕ). CELL * n) (sym (f .power .kept .1 .0)),
+)
 
 same-length : tie.Need-same-length
-same-length c = search needs
+same-length c = c .before .before .answered .kept .1 .1 .0
 
 same-length-2 : tie.Need-same-length-2
-same-length-2 c = search needs
+same-length-2 c = c .before .before .before .before .before .before .before .before .before .before .decode .kept .1 .0
 
 same-length-3 : tie.Need-same-length-3
-same-length-3 c = search needs
+same-length-3 c = c .before .before .before .before .before .before .power .kept .1 .0
 
 returns : tie.Need-returns
 returns c = let f = c .before .before .before .before .before .before in let e = f .power .ensures in let p = start f .pre in let a = c .before .before .answered .ensures in
-    answered-power (spectrum f) (powers f) (room f) (p .0) (values f) (p .1) _ (read f) (e .0) (f .power .last .1 .0) _ _ (e .1 .1) (a .0) (a .1)
+    answered-power (spectrum f) (powers f) (room f) (p .0) (values f) (p .1) _ (read f) (e .0) _ _ _ (e .1 .1) (a .0) (a .1)
 
 pub power-in-spec : {M : Type 1} → statement M
 power-in-spec = tie.close (tie.spec decode-requires power-requires answered-requires same-length same-length-2 same-length-3 returns)

@@ -7,8 +7,8 @@ use native.Mathlib.Numerals.{add-one}
 use native.Mathlib.Omega.{arith}
 use lib.ListN.{length, set, length-set}
 use Rattle.ints.proofs.Filling.{Filled, filled-then, filled-all}
-use Rattle.bytes.specs.Spelling.{spelled}
-use Rattle.bytes.proofs.Unsigned.{left-next, spelled-tabulated}
+use Rattle.little_endian.specs.Spelling.{spelled}
+use Rattle.little_endian.proofs.Unsigned.{left-next, spelled-tabulated}
 use Rattle.host.proofs.put_word.Statement.{statement}
 use Rattle.host.proofs.put_word.Tie as tie
 

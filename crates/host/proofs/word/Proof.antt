@@ -8,9 +8,9 @@ use lib.Seq.{drop-cons, drop-length}
 use denote.Ref.{now}
 use mir.Syntax.{w8, w64}
 use mir.Val.{Fits}
-use Rattle.bytes.specs.Reading.{Bytes, unsigned}
-use Rattle.bytes.proofs.Unsigned.{unsigned-fits}
-use Rattle.bytes.proofs.Signed.{later-bytes}
+use Rattle.little_endian.specs.Reading.{Bytes, unsigned}
+use Rattle.little_endian.proofs.Unsigned.{unsigned-fits}
+use Rattle.little_endian.proofs.Signed.{later-bytes}
 use Rattle.host.proofs.word.Statement.{statement}
 use Rattle.host.proofs.word.Tie as tie
 

@@ -1,0 +1,28 @@
+-- Document 01, Levels and Refused input: what forward and backward leave in the lent cells, and what demand 3 and the law of the first line say of it.
+use mathlib.Core.Path.{_≡_}
+use mathlib.Core.List.{List, []}
+use Prim.Native.Nat.{ℕ, _^_}
+use lib.IntN.{ℤ}
+use lib.ListN.{length}
+use Rattle.ints.specs.Cells.{cell}
+use Rattle.ints.specs.Sum.{sum}
+use Rattle.block.specs.Tests.{testedSamples, testedSpectrum}
+use Rattle.block.specs.BlockAnswers.{cellsLeft}
+use Rattle.spectrum.specs.Spectrum.{forward, backward}
+use Rattle.spectrum.specs.Distance.{WithinE}
+
+-- what forward leaves in the lent cells: the spectrum, or the cells as they were where it refuses
+abbrev pub forwardLeft : List ℤ → List ℤ
+forwardLeft xs = cellsLeft (λ P. forward P xs) xs (testedSamples xs)
+
+-- what backward leaves: the block of the spectrum, or the cells as they were where it refuses
+abbrev pub backwardLeft : List ℤ → List ℤ
+backwardLeft xs = cellsLeft (λ P. backward P xs) xs (testedSpectrum [] xs)
+
+-- demand 3: the samples xs are 2^P, and each of the cells ys is within the distance E(P) of the direct sum
+abbrev pub NearDirectSum : List ℤ → List ℤ → Type 0
+NearDirectSum xs ys = (P : ℕ) × (length xs ≡ 2 ^ P) × WithinE P xs ys
+
+-- the first line equals the sum of the samples exactly
+abbrev pub FirstLineExact : List ℤ → List ℤ → Type 0
+FirstLineExact xs ys = cell ys 0 ≡ sum (length xs) (cell xs)

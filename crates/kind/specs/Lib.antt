@@ -1,0 +1,2 @@
+pub mod BlockKinds
+pub mod Loudness

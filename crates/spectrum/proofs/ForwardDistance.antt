@@ -1,0 +1,69 @@
+-- Demand 3 as document 01 has it: the distance theorem, the exact line 0 and the magnitude law, at the scale and the rounding in force.
+-- The proof goes in six steps, one file each: the even/odd law of the levels (EvenOdd), the same split of the direct sum (DirectSplit), the
+-- identity for one line and its bounds (Step), one level (OneLevel), the induction over the levels (Distance), and the figures here.
+-- Example: `demand-3 10 few xs long quiet : WithinE 10 xs (forward 10 xs)`.
+use mathlib.Core.Path.{_≡_}
+use mathlib.Core.List.{List}
+use Prim.Native.Nat.{ℕ, _+_, _*_, _^_, _≤_, _<_}
+use native.Mathlib.Nat.{le-trans}
+use native.Mathlib.Omega.{arith}
+use lib.Dec.{T, eqb, leb, eqb→eq, leb→le}
+use lib.IntN.{ℤ, pos, natAbs, _-ℤ_, _*ℤ_}
+use lib.ListN.{length}
+use Rattle.ints.specs.Quotient.{rounded}
+use Rattle.ints.specs.Sum.{sum}
+use Rattle.ints.specs.Tabulate.{tabulate}
+use Rattle.ints.proofs.Tables.{alongside, alongside-at}
+use Rattle.kind.specs.BlockKinds.{SCALE, SCALE-DIGITS}
+use Rattle.cosine.specs.Cosine.{fine}
+use Rattle.ints.specs.Cells.{cell}
+use Rattle.kind.specs.Loudness.{LOUDEST-SAMPLE, LOUDEST-LINE}
+use Rattle.spectrum.specs.Levels.{permuted}
+use Rattle.spectrum.specs.Spectrum.{tableCosine, tableSine, levelsAt, forwardAt, forward}
+use Rattle.spectrum.specs.Limits.{LARGEST-CELL}
+use Rattle.spectrum.specs.Distance.{bound, directSum, E, WithinE}
+use Rattle.spectrum.proofs.Nearest.{LARGEST-M, Nearest, nearest-at}
+use Rattle.spectrum.proofs.Distance.{distance}
+use Rattle.spectrum.proofs.Magnitude.{level-size}
+use Rattle.spectrum.proofs.FirstLine.{first-line}
+
+-- ---- at every scale 2^s of the quarter table, 4 ≤ s < 60
+
+pub distance-at : (s : ℕ) → 4 ≤ s → s < 60 → (M : ℕ) → M ≤ LARGEST-M → (P : ℕ) → P ≤ 10 → (xs : List ℤ) → length xs ≡ 2 ^ P → ((t : ℕ) → natAbs (cell xs t) ≤ M) →
+    (v : ℕ) → v < 2 ^ P → natAbs (cell (forwardAt s P xs) v *ℤ pos (2 ^ 60) -ℤ directSum fine xs v) ≤ bound (2 ^ s) M P * 2 ^ 60
+unfolding forwardAt
+distance-at s low high M M-small = distance (nearest-at s low high) M M-small
+
+-- ---- at the scale in force
+
+pub in-force : Nearest SCALE (rounded SCALE) (tableCosine SCALE-DIGITS) (tableSine SCALE-DIGITS)
+in-force = nearest-at SCALE-DIGITS (omega arith) (omega arith)
+
+-- step 6: document 01's figures E(0) to E(10) are `bound` at 32,768 for scale and samples, computed once
+figures : T (alongside eqb (tabulate 11 (bound SCALE LOUDEST-SAMPLE)) (tabulate 11 E))
+unfolding alongside tabulate bound
+figures = tt
+
+pub E-is-bound : (P : ℕ) → P ≤ 10 → bound SCALE LOUDEST-SAMPLE P ≡ E P
+E-is-bound P few = eqb→eq _ _ (alongside-at eqb (bound SCALE LOUDEST-SAMPLE) E 11 11 figures P (omega arith))
+
+pub demand-3 : (P : ℕ) → P ≤ 10 → (xs : List ℤ) → length xs ≡ 2 ^ P → ((t : ℕ) → natAbs (cell xs t) ≤ LOUDEST-SAMPLE) → WithinE P xs (forward P xs)
+unfolding forward
+demand-3 P few xs long quiet v h = rw (← E-is-bound P few) (distance-at SCALE-DIGITS (omega arith) (omega arith) LOUDEST-SAMPLE (omega arith) P few xs long quiet v h)
+
+-- ---- line 0 is the sum of the samples
+
+pub forward-first : (P : ℕ) (xs : List ℤ) → cell (forward P xs) 0 ≡ sum (2 ^ P) (cell xs)
+unfolding forward forwardAt
+forward-first P xs = first-line in-force P xs
+
+-- ---- room: with samples of 2^28 at most, as a lent spectrum may have, no cell before a level is above 2^40
+
+rooms : T (alongside leb (tabulate 11 (λ L. 2 * (2 ^ L * LOUDEST-LINE) + 2 * bound SCALE LOUDEST-LINE L)) (tabulate 11 (λ L. LARGEST-CELL)))
+unfolding alongside tabulate bound
+rooms = tt
+
+pub forward-room : (L P : ℕ) → L < P → P ≤ 10 → (xs : List ℤ) → ((t : ℕ) → natAbs (cell xs t) ≤ LOUDEST-LINE) → (i : ℕ) →
+    natAbs (cell (levelsAt SCALE-DIGITS L (permuted P xs)) i) ≤ LARGEST-CELL
+forward-room L P h few xs quiet i = le-trans (level-size in-force LOUDEST-LINE (omega arith) L P (omega arith) few xs quiet i)
+    (leb→le _ _ (alongside-at leb (λ L. 2 * (2 ^ L * LOUDEST-LINE) + 2 * bound SCALE LOUDEST-LINE L) (λ L. LARGEST-CELL) 11 11 rooms L (omega arith)))

@@ -1,0 +1,48 @@
+-- Document 01, Samples worked by hand: those with a star, as rows of one table. That every row holds is proved in proofs/RowsHold.antt.
+use mathlib.Core.Path.{_≡_}
+use mathlib.Core.List.{List, [], _∷_, map}
+use lib.IntN.{ℤ, pos, negℤ, _*ℤ_}
+use Rattle.ints.specs.Quotient.{floor, rounded}
+use Rattle.kind.specs.BlockKinds.{SCALE, SCALE-DIGITS}
+use Rattle.cosine.specs.Cosine.{quarterTable}
+use Rattle.spectrum.specs.Spectrum.{forward, backward}
+
+-- what a definition gives, and what document 01 says that it gives
+pub record Row : Type 0 where
+  pub given : List ℤ
+  pub said : List ℤ
+
+unfoldable pub rows : List Row
+unfolding floor rounded quarterTable forward backward
+rows =
+    -- T at 0, 64, 128, 192, 256
+    record {
+      given = map (λ j. pos (quarterTable SCALE-DIGITS j)) (0 ∷ 64 ∷ 128 ∷ 192 ∷ 256 ∷ []);
+      said = pos 32768 ∷ pos 30274 ∷ pos 23170 ∷ pos 12540 ∷ pos 0 ∷ [];
+    }
+    -- the rounding of 8,192 × 23,170, and of minus that
+    ∷ record { given = rounded SCALE (pos 8192 *ℤ pos 23170) ∷ []; said = pos 5793 ∷ [] }
+    ∷ record { given = rounded SCALE (negℤ (pos 8192 *ℤ pos 23170)) ∷ []; said = negℤ (pos 5792) ∷ [] }
+    -- {0, 0} gives {0, 0}
+    ∷ record { given = forward 1 (pos 0 ∷ pos 0 ∷ []); said = pos 0 ∷ pos 0 ∷ [] }
+    -- {3, -5} gives {-2, 8}
+    ∷ record { given = forward 1 (pos 3 ∷ negℤ (pos 5) ∷ []); said = negℤ (pos 2) ∷ pos 8 ∷ [] }
+    -- {1, 2, 3, 4} gives {10, -4, -2, 0}, and backward of that gives {1, 2, 3, 4}
+    ∷ record { given = forward 2 (pos 1 ∷ pos 2 ∷ pos 3 ∷ pos 4 ∷ []); said = pos 10 ∷ negℤ (pos 4) ∷ negℤ (pos 2) ∷ pos 0 ∷ [] }
+    ∷ record { given = backward 2 (pos 10 ∷ negℤ (pos 4) ∷ negℤ (pos 2) ∷ pos 0 ∷ []); said = pos 1 ∷ pos 2 ∷ pos 3 ∷ pos 4 ∷ [] }
+    -- {1 to 8} gives {36, -14, -8, -6, -4, -2, 0, 6}
+    ∷ record {
+      given = forward 3 (pos 1 ∷ pos 2 ∷ pos 3 ∷ pos 4 ∷ pos 5 ∷ pos 6 ∷ pos 7 ∷ pos 8 ∷ []);
+      said = pos 36 ∷ negℤ (pos 14) ∷ negℤ (pos 8) ∷ negℤ (pos 6) ∷ negℤ (pos 4) ∷ negℤ (pos 2) ∷ pos 0 ∷ pos 6 ∷ [];
+    }
+    -- {0, 1, 0, 0, 0, 0, 0, 0} gives {1, 1, 1, 0, -1, -1, -1, 0}
+    ∷ record {
+      given = forward 3 (pos 0 ∷ pos 1 ∷ pos 0 ∷ pos 0 ∷ pos 0 ∷ pos 0 ∷ pos 0 ∷ pos 0 ∷ []);
+      said = pos 1 ∷ pos 1 ∷ pos 1 ∷ pos 0 ∷ negℤ (pos 1) ∷ negℤ (pos 1) ∷ negℤ (pos 1) ∷ pos 0 ∷ [];
+    }
+    ∷ []
+
+-- every row's two sides are equal
+abbrev pub Hold : List Row → Type 0
+Hold [] = Unit
+Hold (r ∷ rs) = (r .given ≡ r .said) × Hold rs
