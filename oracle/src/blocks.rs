@@ -32,13 +32,13 @@ pub fn forward(cells: &[i64]) -> Result<Vec<i64>, Refusal> {
     Ok(after_levels(cells))
 }
 
-/// "Backward: the same steps on a spectrum, then each cell becomes (x + N/2) / N, rounded down."
+/// "Backward: the same steps on a spectrum", then the division of each cell by N, which rounds as document 02 says.
 pub fn backward(cells: &[i64]) -> Result<Vec<i64>, Refusal> {
     test_length(cells.len())?;
     test_spectrum(cells)?;
     let n = cells.len() as i64;
     let lines = after_levels(cells);
-    Ok(lines.iter().map(|x| (x + n / 2).div_euclid(n)).collect())
+    Ok(lines.iter().map(|x| divided(*x, n)).collect())
 }
 
 /// Steps 1 and 2: permute, then "Level L, from 1 to P".
@@ -84,18 +84,56 @@ fn joined(cells: &[i64], level: u32) -> Vec<i64> {
     lines
 }
 
-/// "Q is b(v mod n) × C + b((n - (v mod n)) mod n) × S, divided by 32,768 with rounding."
+/// "Q is b(v mod n) × C + b((n - (v mod n)) mod n) × S, divided by 32,768 with rounding", which is "taken on the sum of
+/// both products".
 fn q(b: &[i64], v: usize) -> i64 {
+    divided(both_products(b, v), 32_768)
+}
+
+fn both_products(b: &[i64], v: usize) -> i64 {
     let n = b.len();
     let j = (v * TURN as usize / (2 * n)) as i64;
     let c = table_cosine(j);
     let s = table_sine(j);
-    rounded(b[v % n] * c + b[(n - v % n) % n] * s)
+    b[v % n] * c + b[(n - v % n) % n] * s
 }
 
-/// "Rounding: (x + 16,384) / 32,768, rounded down, taken on the sum of both products."
-fn rounded(x: i64) -> i64 {
-    (x + 16_384).div_euclid(32_768)
+/// Document 02, Item 1: "The trade rounds halves away from zero, and so shall the level rounding and the backward
+/// division".
+fn divided(x: i64, by: i64) -> i64 {
+    let whole = x / by; // towards zero
+    let rest = x % by; // with the sign of x
+    if 2 * rest.abs() >= by {
+        whole + x.signum()
+    } else {
+        whole
+    }
+}
+
+/// How many of the divisions meet a half, above zero and below it: those of the levels, and those of backward after them.
+pub fn halves(cells: &[i64]) -> [[u64; 2]; 2] {
+    let mut met = [[0, 0], [0, 0]];
+    let p = cells.len().ilog2();
+    let mut lines = permuted(cells, p);
+    for level in 1..=p {
+        let n = 1 << (level - 1);
+        for halves in lines.chunks(2 * n) {
+            for v in 0..2 * n {
+                count_half(&mut met[0], both_products(&halves[n..], v), 32_768);
+            }
+        }
+        lines = joined(&lines, level);
+    }
+    for line in lines {
+        count_half(&mut met[1], line, cells.len() as i64);
+    }
+    met
+}
+
+fn count_half(met: &mut [u64; 2], x: i64, by: i64) {
+    if 2 * (x % by).abs() == by {
+        met[usize::from(x < 0)] += 1;
+    }
 }
 
 /// "The direct sum of demand 3" for each line v of an accepted block, at scale 2^60.
@@ -116,11 +154,15 @@ fn direct_line(samples: &[i64], v: usize, cas: &[i128]) -> i128 {
 
 #[cfg(test)]
 mod tests {
-    use super::rounded;
+    use super::divided;
 
     #[test]
     fn rounding_worked_by_hand() {
-        assert_eq!(rounded(8_192 * 23_170), 5_793);
-        assert_eq!(rounded(-8_192 * 23_170), -5_792);
+        assert_eq!(divided(8_192 * 23_170, 32_768), 5_793);
+        assert_eq!(divided(-8_192 * 23_170, 32_768), -5_793);
+        let halves: Vec<i64> = (-7..=7).map(|x| divided(x, 2)).collect();
+        assert_eq!(halves, [-4, -3, -3, -2, -2, -1, -1, 0, 1, 1, 2, 2, 3, 3, 4]);
+        let quarters: Vec<i64> = (-7..=7).map(|x| divided(x, 4)).collect();
+        assert_eq!(quarters, [-2, -2, -1, -1, -1, -1, 0, 0, 0, 1, 1, 1, 1, 2, 2]);
     }
 }

@@ -1,6 +1,6 @@
-//! The second program: document 01 once more, written apart from the engine
-//! and from that paper alone, so that the two can be compared.
-//! Sentences in quotation marks are document 01's own.
+//! The second program: document 01 once more, as document 02 amends it, written apart from the engine
+//! and from these papers alone, so that the two can be compared.
+//! Sentences in quotation marks are document 01's own, but where document 02 is named.
 
 mod blocks;
 mod cells;
@@ -10,7 +10,7 @@ mod listing;
 mod refusal;
 mod trace;
 
-pub use blocks::{backward, direct, forward, E};
+pub use blocks::{backward, direct, forward, halves, E};
 pub use cells::{backward_bytes, forward_bytes, power_bytes};
 pub use cosines::{fine_cosine, table_cosine};
 pub use fourier::{parts, power};

@@ -1,4 +1,4 @@
-//! The samples of document 01, its refusals, and the bound E.
+//! The samples of document 01, its refusals, and the bound E; and what document 02 amends.
 
 use oracle::*;
 use std::io::Write;
@@ -108,10 +108,42 @@ fn forward_worked_by_hand() {
 #[test]
 fn backward_worked_by_hand() {
     assert_eq!(backward(&[10, -4, -2, 0]), Ok(vec![1, 2, 3, 4]));
-    // (x + 1) / 2, rounded down, of 1, -1 and -2
+    // x / 2, halves away from zero, of 1, -1, -2, 3 and -3
     assert_eq!(backward(&[1, 0]), Ok(vec![1, 1]));
-    assert_eq!(backward(&[-1, 0]), Ok(vec![0, 0]));
+    assert_eq!(backward(&[-1, 0]), Ok(vec![-1, -1]));
     assert_eq!(backward(&[-2, 0]), Ok(vec![-1, -1]));
+    assert_eq!(backward(&[3, 0]), Ok(vec![2, 2]));
+    assert_eq!(backward(&[-3, 0]), Ok(vec![-2, -2]));
+}
+
+/// Document 02, Item 1: "a block and its negative, where forward takes both, have spectra that are negatives of each
+/// other, line by line".
+#[test]
+fn negatives() {
+    for p in 1..=10 {
+        for mut block in blocks(p) {
+            for sample in &mut block {
+                *sample = (*sample).max(-32_767); // the negative of -32,768 is not taken
+            }
+            let negative: Vec<i64> = block.iter().map(|sample| -sample).collect();
+            let (spectrum, other) = (forward(&block).unwrap(), forward(&negative).unwrap());
+            assert!(spectrum.iter().zip(&other).all(|(line, its)| *line == -its));
+            let (again, other) = (backward(&spectrum).unwrap(), backward(&other).unwrap());
+            assert!(again.iter().zip(&other).all(|(cell, its)| *cell == -its));
+        }
+    }
+}
+
+/// 4,096 alone at moment 1 of 8 makes b(1) + b(3) twice as large, so line 1 adds 8,192 × 23,170 / 32,768 = 5,792.5, and
+/// so does line 5, half a turn on, with the other sign. In line 3 the two products cancel.
+#[test]
+fn halves_worked_by_hand() {
+    let block = [0, 4_096, 0, 0, 0, 0, 0, 0];
+    assert_eq!(forward(&block), Ok(vec![4_096, 5_793, 4_096, 0, -4_096, -5_793, -4_096, 0]));
+    assert_eq!(halves(&block)[0], [1, 1]);
+    assert_eq!(halves(&[3, 0])[1], [2, 0]);
+    assert_eq!(halves(&[-3, 0])[1], [0, 2]);
+    assert_eq!(halves(&[1, 2, 3, 4])[0], [0, 0]);
 }
 
 #[test]

@@ -2,3 +2,4 @@ pub mod Taken
 pub mod Limits
 pub mod Refused
 pub mod SamplesTaken
+pub mod Negative

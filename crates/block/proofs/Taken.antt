@@ -93,8 +93,11 @@ module _ (low high : ℤ) (outputs : List ℕ) (xs : List ℤ) (kind : BlockKind
   fits-then : (misfit (length xs / 2 + 1) outputs ≡ false) × (ofLength (kindOf (length xs)) ≡ Taken kind)
   fits-then = passed (misfit (length xs / 2 + 1) outputs) Misfit (ofLength (kindOf (length xs))) kind (quiet-then .1)
 
+  pub taken-found : kindOf (length xs) ≡ Found kind
+  taken-found = length-found (kindOf (length xs)) kind (fits-then .1)
+
   pub taken-kind : Kind-length (length xs) (kind .p)
-  taken-kind = kind-length (length xs) (kind .p) (length-found (kindOf (length xs)) kind (fits-then .1))
+  taken-kind = kind-length (length xs) (kind .p) taken-found
 
   pub taken-fits : misfit (length xs / 2 + 1) outputs ≡ false
   taken-fits = fits-then .0

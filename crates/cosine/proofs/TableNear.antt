@@ -10,7 +10,7 @@ use lib.Pow.{pow-pos, pow-add}
 use Rattle.ints.proofs.Ring.{ring, quotes}
 use Rattle.ints.proofs.Abs.{abs-neg, abs-times}
 use Rattle.ints.proofs.Powers.{two-pow}
-use Rattle.ints.proofs.Floor.{floor-pos, half-added-near}
+use Rattle.ints.proofs.Rounding.{size-near}
 use Rattle.cosine.specs.Cosine.{cosine, sine, fine, quarterTable}
 use Rattle.cosine.proofs.Turn.{over-cosine, over-sine}
 use Rattle.cosine.proofs.HalfAngle.{fine-end}
@@ -24,7 +24,7 @@ module _ (h : ℕ) (z : 0 < h) (f : ℕ) where
 
   scaled : (q : ℕ) → natAbs (pos nearest *ℤ pos (2 * (h * q)) -ℤ pos f *ℤ pos q) ≤ h * q
   unfolding nearest
-  scaled q = rw (out (pos ((f + h) / (2 * h))), abs-times) (omega (arith, mul-le-mul-left q (rw floor-pos at (half-added-near h z (pos f)))))
+  scaled q = rw (out (pos ((f + h) / (2 * h))), abs-times) (omega (arith, mul-le-mul-left q (size-near h z f)))
     where
       out : (t : ℤ) → t *ℤ pos (2 * (h * q)) -ℤ pos f *ℤ pos q ≡ pos q *ℤ (pos (2 * h) *ℤ t -ℤ pos f)
       out t = ring (t ∷ pos f ∷ pos q ∷ pos h ∷ []) (search quotes depth 40) tt

@@ -1,5 +1,5 @@
 -- What `join` needs of one pair of halves: where line v, its mirror and its entry lie, what lines v and n + v are there, and how they fill the cells.
--- Example: `line-in-second-half` says that line n + v is a(v) plus the rounded quotient of minus the sum that the machine forms.
+-- Example: `line-in-second-half` says that line n + v is a(v) less the rounded quotient of the sum that the machine forms.
 use mathlib.Core.Path.{_≡_, refl, sym, _∙_, ap}
 use mathlib.Core.Bool.{Bool, true, false, not}
 use mathlib.Core.List.{List}
@@ -8,9 +8,10 @@ use native.Mathlib.Nat.{zero-mul, zero-add, mul-le-mul-right}
 use native.Mathlib.Omega.{arith}
 use borrow.Author.Count.{below-more}
 use lib.Dec.{T, ltb, ltb→lt, nltb→le}
-use lib.IntN.{ℤ, pos, negℤ, natAbs, _+ℤ_, _*ℤ_}
+use lib.IntN.{ℤ, pos, negℤ, natAbs, _+ℤ_, _-ℤ_, _*ℤ_}
 use lib.ListN.{length, getD, set, length-set}
 use lib.Seq.{getD-set-same, getD-set-other}
+use Rattle.ints.proofs.Rounding.{rounded-odd}
 use Rattle.ints.proofs.Mirror.{mirror-first, mirror-later, mirror-in}
 use Rattle.ints.proofs.Tables.{getD-tabulate, length-tabulate}
 use Rattle.ints.proofs.Filling.{Filled, filled-next, filled-still}
@@ -98,10 +99,12 @@ module _ {n stride : ℕ} {cosines sines : List ℤ} (J : CanJoin n stride cosin
           ∙ first-half (rounded SCALE) (tableCosine SCALE-DIGITS) (tableSine SCALE-DIGITS) n (J .some) x b (stride * J .apart) (J .turn) v (p .below)
           ∙ ap (λ (y : ℤ). x v +ℤ rounded SCALE y) (same-sum ∙ sym e)
 
-      pub line-in-second-half : joinedAt SCALE-DIGITS n x (n + v) ≡ x v +ℤ rounded SCALE (negℤ z)
+      -- half a turn on the sum changes its sign, and the rounding is odd
+      pub line-in-second-half : joinedAt SCALE-DIGITS n x (n + v) ≡ x v -ℤ rounded SCALE z
       line-in-second-half = line-of-pair (n + v) (omega (arith, p .below))
           ∙ second-half (rounded SCALE) (tableCosine SCALE-DIGITS) (tableSine SCALE-DIGITS) n (J .some) x b (stride * J .apart) (J .turn) v (p .below)
-          (cosine-half (quarterTable SCALE-DIGITS) end) (sine-half (quarterTable SCALE-DIGITS) end) ∙ ap (λ (y : ℤ). x v +ℤ rounded SCALE (negℤ y)) (same-sum ∙ sym e)
+          (cosine-half (quarterTable SCALE-DIGITS) end) (sine-half (quarterTable SCALE-DIGITS) end)
+          ∙ ap (λ (y : ℤ). x v +ℤ y) (ap (λ (y : ℤ). rounded SCALE (negℤ y)) (same-sum ∙ sym e) ∙ rounded-odd SCALE (omega arith) z)
         where
           end : quarterTable SCALE-DIGITS 256 ≡ 0
           end = table-end SCALE-DIGITS (omega arith)

@@ -1,3 +1,4 @@
 pub mod Halves
 pub mod Counting
 pub mod ForwardTaken
+pub mod BackwardLeft

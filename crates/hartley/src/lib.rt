@@ -17,8 +17,8 @@ ghost use Rattle.block.specs.BlockAnswers.{blockAnswer, verdictNumbers, answerN
 ghost use Rattle.block.specs.declared.Answer.the-variants.{Done};
 ghost use Rattle.spectrum.specs.Levels.{permuted, reversed};
 ghost use Rattle.spectrum.specs.Spectrum.{tableCosine, tableSine, levelAt, levelsAt, forward};
-ghost use Rattle.spectrum.specs.Limits.{LARGEST-CELL, LARGEST-SUM};
-ghost use Rattle.hartley.specs.Promises.{FirstLineExact, NearDirectSum, backwardLeft, forwardLeft};
+ghost use Rattle.spectrum.specs.Limits.{LARGEST-CELL, LARGEST-SUM, LARGEST-QUOTIENT};
+ghost use Rattle.hartley.specs.Promises.{FirstLineExact, NearDirectSum, NegativeBlock, NegativeSpectrum, backwardLeft, forwardLeft};
 ghost use Rattle.hartley.specs.Inner.{CanJoin, NoneAbove, CanRunLevels, overHalfTurn};
 
 // The forward spectrum of a block of samples, which it replaces.
@@ -28,6 +28,7 @@ pub fn forward(cells: &mut [i64]) -> Answer
     ensures cells { λ _. ⌜ now (cells .exit) ≡ forwardLeft (now (cells .entry)) ⌝ }
     ensures distance { λ r. ⌜ (r ≡ Done → NearDirectSum (now (cells .entry)) (now (cells .exit))) ⌝ }
     ensures first_line { λ r. ⌜ (r ≡ Done → FirstLineExact (now (cells .entry)) (now (cells .exit))) ⌝ }
+    ensures negative { λ r. ⌜ (r ≡ Done → NegativeSpectrum (now (cells .entry)) (now (cells .exit))) ⌝ }
 {
     match block::tested_samples(cells) {
         BlockVerdict::Refused(refusal) => Answer::Refused(refusal),
@@ -43,6 +44,7 @@ pub fn backward(cells: &mut [i64]) -> Answer
     ensures answer { λ r. ⌜ r ≡ blockAnswer (testedSpectrum [] (now (cells .entry))) ⌝ }
     ensures numbers { λ r. ⌜ answerNumbers r ≡ verdictNumbers (testedSpectrum [] (now (cells .entry))) ⌝ }
     ensures cells { λ _. ⌜ now (cells .exit) ≡ backwardLeft (now (cells .entry)) ⌝ }
+    ensures negative { λ _. ⌜ NegativeBlock (now (cells .entry)) (now (cells .exit)) ⌝ }
 {
     match block::tested_spectrum(&[], cells) {
         BlockVerdict::Refused(refusal) => Answer::Refused(refusal),
@@ -186,8 +188,8 @@ fn join_level(
     }
 }
 
-// The same of one pair: a, and b behind it. Lines v and n + v have the same operands; half a turn on, cosine and sine change their
-// signs. The mirror of line 0 is line 0, that of line v is line n - v. Line v takes entry v × stride of the cosines and sines.
+// The same of one pair: a, and b behind it. Lines v and n + v have the same operands; half a turn on, cosine and sine change their signs,
+// and so does the quotient. The mirror of line 0 is line 0, that of line v is line n - v. Line v takes entry v × stride of the cosines and sines.
 fn join(pair: &[i64], cells: &mut [i64], cosines: &[i64], sines: &[i64], n: usize, stride: usize)
     requires { ⌜ CanJoin n stride (now cosines) (now sines) × NoneAbove LARGEST-CELL (now pair) × (length (now pair) ≡ 2 * n) × (length (now cells) ≡ 2 * n) ⌝ }
     ensures { λ _. ⌜ now (cells .exit) ≡ levelAt SCALE-DIGITS n (now (pair .entry)) ⌝ }
@@ -199,8 +201,9 @@ fn join(pair: &[i64], cells: &mut [i64], cosines: &[i64], sines: &[i64], n: usiz
         let opposite = n + v;
         let sum = sum_of_products(pair, opposite, mirror, cosines, sines, entry);
         let first = pair[v];
-        cells[v] = plus_quotient(first, sum);
-        cells[opposite] = plus_quotient(first, -sum);
+        let q = quotient(sum);
+        cells[v] = first + q;
+        cells[opposite] = first - q;
         v += 1;
         mirror = pair.len() - v;
         entry += stride;
@@ -222,12 +225,12 @@ fn sum_of_products(
     pair[place] * cosines[entry] + pair[mirror] * sines[entry]
 }
 
-// A cell of the first half plus the sum of both products divided by the scale with rounding.
-fn plus_quotient(a: i64, sum: i64) -> i64
-    requires { ⌜ (natAbs a ≤ LARGEST-CELL) × (natAbs sum ≤ LARGEST-SUM) ⌝ }
-    ensures { λ r. ⌜ r ≡ a +ℤ rounded SCALE sum ⌝ }
+// The sum of both products divided by the scale with rounding.
+fn quotient(sum: i64) -> i64
+    requires { ⌜ natAbs sum ≤ LARGEST-SUM ⌝ }
+    ensures { λ r. ⌜ (r ≡ rounded SCALE sum) × (natAbs r ≤ LARGEST-QUOTIENT) ⌝ }
 {
-    a + ints::rounded(BlockKind::SCALE_DIGITS, sum)
+    ints::rounded(BlockKind::SCALE_DIGITS, sum)
 }
 
 // Divides each cell by 2^p with rounding.
@@ -236,7 +239,8 @@ fn divide(cells: &mut [i64], p: usize)
 {
     let mut i = 0;
     while i < cells.len() {
-        cells[i] = ints::rounded(p, cells[i]);
+        let x = cells[i];
+        cells[i] = ints::rounded(p, x);
         i += 1;
     }
 }

@@ -9,7 +9,7 @@ use Prim.Native.Nat.{ℕ, _+_, _-_, _*_, _/_, _%_, _^_, _≤_, _<_}
 use native.Mathlib.Omega.{arith}
 use borrow.Author.Tests.{eq-eqb, ne-eqb, eqb-true, eqb-false, leb-false}
 use lib.Dec.{eqb, leb}
-use lib.IntN.{ℤ, pos}
+use lib.IntN.{ℤ, pos, negsuc, natAbs}
 use lib.ListN.{length, getD, take, drop}
 use Rattle.ints.proofs.Slices.{length-part}
 use Rattle.kind.specs.declared.BlockKind.{BlockKind}
@@ -23,6 +23,7 @@ use Rattle.block.proofs.Refused.{kind-least, kind-largest, tested-length, teste
 use Rattle.little_endian.specs.Reading.{Within, signeds}
 use Rattle.little_endian.specs.Spelling.{spelledSigneds}
 use Rattle.little_endian.proofs.Signed.{length-signeds, length-spelled-signeds, signeds-spelled}
+use Rattle.spectrum.specs.Limits.{LARGEST-CELL}
 use Rattle.host.specs.CellBytes.{CELL, cellsIn}
 use Rattle.host.specs.Inner.{cellCount}
 
@@ -137,6 +138,11 @@ module _ (low high : ℤ) (bytes : List ℕ) (xs : List ℤ) where
         go (too-many z k) = absurd (omega (arith, some))
 
 -- ---- bytes that were written spell the cells that they were written for
+
+-- eight bytes hold every cell that a call leaves
+pub cell-within : (z : ℤ) → natAbs z ≤ LARGEST-CELL → Within (256 ^ CELL) z
+cell-within (pos x) h = omega arith
+cell-within (negsuc x) h = omega arith
 
 pub cells-back : (xs : List ℤ) → ((i : ℕ) → i < length xs → Within (256 ^ CELL) (getD xs i (pos 0))) → cellsIn (spelledSigneds CELL xs) ≡ xs
 cells-back xs h = let n = length xs in let bytes = spelledSigneds CELL xs in let e : length bytes ≡ CELL * n = length-spelled-signeds CELL xs in

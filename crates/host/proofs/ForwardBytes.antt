@@ -1,13 +1,12 @@
--- What forward leaves in the bytes: they spell what it leaves in the cells, so demand 3 and the law of the first line hold of the cells in them.
+-- What forward leaves in the bytes: they spell what it leaves in the cells, so demand 3, the law of the first line and that
+-- of the negative hold of the cells in them.
 -- Example: `bytes-near before a z : NearDirectSum (cellsIn before) (cellsIn after)`, with z : the answer is 0.
 use mathlib.Core.Path.{_≡_, refl, sym, _∙_, ap}
 use mathlib.Core.List.{List, []}
-use Prim.Native.Nat.{ℕ, _^_, _≤_}
+use Prim.Native.Nat.{ℕ}
 use native.Mathlib.Omega.{arith}
-use lib.IntN.{ℤ, pos, negsuc, natAbs}
+use lib.IntN.{ℤ}
 use Rattle.ints.specs.Cells.{cell}
-use Rattle.kind.specs.Loudness.{LOUDEST-LINE}
-use Rattle.little_endian.specs.Reading.{Within}
 use Rattle.block.specs.declared.BlockVerdict.{BlockVerdict}
 use Rattle.block.specs.declared.BlockVerdict.the-variants.{Taken, Refused}
 use Rattle.block.specs.declared.Answer.the-variants.{Done}
@@ -15,18 +14,13 @@ use Rattle.block.specs.Tests.{testedSamples}
 use Rattle.block.specs.BlockAnswers.{blockAnswer, cellsLeft}
 use Rattle.block.proofs.Taken.{output-none, spectrum-accepted}
 use Rattle.spectrum.specs.Spectrum.{forward}
-use Rattle.hartley.specs.Promises.{FirstLineExact, NearDirectSum, forwardLeft}
-use Rattle.hartley.proofs.ForwardTaken.{first-line-exact, forward-taken, near-direct-sum}
-use Rattle.host.specs.CellBytes.{CELL, bytesLeft, cellsIn}
+use Rattle.hartley.specs.Promises.{FirstLineExact, NearDirectSum, NegativeSpectrum, forwardLeft}
+use Rattle.hartley.proofs.ForwardTaken.{first-line-exact, forward-taken, near-direct-sum, negative-spectrum}
+use Rattle.host.specs.CellBytes.{bytesLeft, cellsIn}
 use Rattle.host.specs.EntryBytes.{forwardBytes}
 use Rattle.host.specs.Inner.{Answered}
 use Rattle.host.proofs.Packing.{nothing-refused}
-use Rattle.host.proofs.Counts.{cells-back}
-
--- eight bytes hold every line of a spectrum
-quiet-within : (z : ℤ) → natAbs z ≤ LOUDEST-LINE → Within (256 ^ CELL) z
-quiet-within (pos x) h = omega arith
-quiet-within (negsuc x) h = omega arith
+use Rattle.host.proofs.Counts.{cell-within, cells-back}
 
 spelled-cells : (bytes : List ℕ) → cellsIn (forwardBytes bytes) ≡ forwardLeft (cellsIn bytes)
 spelled-cells bytes = go (testedSamples xs) refl
@@ -36,7 +30,7 @@ spelled-cells bytes = go (testedSamples xs) refl
 
     go : (k : BlockVerdict) → testedSamples xs ≡ k → let left = cellsLeft (λ P. forward P xs) xs k in cellsIn (bytesLeft k left bytes) ≡ left
     go (Taken kind) e = let ys = forward (kind .p) xs in let taken = forward-taken [] xs kind e (output-none _) in
-        cells-back ys (λ i h. quiet-within (cell ys i) (spectrum-accepted [] ys kind taken .quiet i))
+        cells-back ys (λ i h. cell-within (cell ys i) (omega (arith, spectrum-accepted [] ys kind taken .quiet i)))
     go (Refused refusal) e = refl
 
 module _ (before : List ℕ) {after : List ℕ} {answer : ℕ} (a : Answered (testedSamples (cellsIn before)) (forwardBytes before) after answer) (z : answer ≡ 0) where
@@ -51,3 +45,6 @@ module _ (before : List ℕ) {after : List ℕ} {answer : ℕ} (a : Answered (te
 
   pub bytes-first-exact : FirstLineExact (cellsIn before) (cellsIn after)
   bytes-first-exact = rw cells-after (first-line-exact (cellsIn before) done)
+
+  pub bytes-negative : NegativeSpectrum (cellsIn before) (cellsIn after)
+  bytes-negative = rw cells-after (negative-spectrum (cellsIn before) done)

@@ -15,7 +15,7 @@ ghost use Rattle.little_endian.specs.Spelling.{spelled, spelledSigneds};
 ghost use Rattle.block.specs.Tests.{testedSamples, testedSpectrum};
 ghost use Rattle.block.specs.BlockAnswers.{blockAnswer, verdictNumbers};
 ghost use Rattle.block.specs.declared.Answer.the-variants.{Done};
-ghost use Rattle.hartley.specs.Promises.{FirstLineExact, NearDirectSum};
+ghost use Rattle.hartley.specs.Promises.{FirstLineExact, NearDirectSum, NegativeBlock, NegativeSpectrum};
 ghost use Rattle.fourier.specs.Parts.{testedPower};
 ghost use Rattle.trace.specs.Contents.{LONGEST, contents};
 ghost use Rattle.trace.specs.TraceAnswers.{contentsNumbers, traceAnswer};
@@ -42,6 +42,7 @@ pub extern "C" fn hartley_forward(cells: &mut [u8]) -> u64
     ensures bytes { λ _. ⌜ now (cells .exit) ≡ forwardBytes (now (cells .entry)) ⌝ }
     ensures distance { λ r. ⌜ (r ≡ 0 → NearDirectSum (cellsIn (now (cells .entry))) (cellsIn (now (cells .exit)))) ⌝ }
     ensures first_line { λ r. ⌜ (r ≡ 0 → FirstLineExact (cellsIn (now (cells .entry))) (cellsIn (now (cells .exit)))) ⌝ }
+    ensures negative { λ r. ⌜ (r ≡ 0 → NegativeSpectrum (cellsIn (now (cells .entry))) (cellsIn (now (cells .exit)))) ⌝ }
 {
     let len = cell_count(CELL * BlockKind::LARGEST, cells.len());
     let mut block = [0i64; BlockKind::LARGEST];
@@ -54,6 +55,7 @@ pub extern "C" fn hartley_backward(cells: &mut [u8]) -> u64
     ensures answer { λ r. ⌜ r ≡ packed (blockAnswer (testedSpectrum [] (cellsIn (now (cells .entry))))) ⌝ }
     ensures numbers { λ r. ⌜ unpackedBlock r ≡ verdictNumbers (testedSpectrum [] (cellsIn (now (cells .entry)))) ⌝ }
     ensures bytes { λ _. ⌜ now (cells .exit) ≡ backwardBytes (now (cells .entry)) ⌝ }
+    ensures negative { λ _. ⌜ NegativeBlock (cellsIn (now (cells .entry))) (cellsIn (now (cells .exit))) ⌝ }
 {
     let len = cell_count(CELL * BlockKind::LARGEST, cells.len());
     let mut block = [0i64; BlockKind::LARGEST];

@@ -3,10 +3,10 @@
 use mathlib.Core.Path.{_≡_, refl}
 use mathlib.Core.Bool.{Bool, true, false}
 use mathlib.Core.List.{[], _∷_}
-use Prim.Native.Nat.{_+_, _≤_, _<_}
+use Prim.Native.Nat.{zero, suc, _+_, _≤_, _<_}
 use native.Mathlib.Omega.{arith}
 use lib.Dec.{T}
-use lib.IntN.{ℤ}
+use lib.IntN.{ℤ, pos, negsuc, negℤ}
 use lib.Signed.{leZ, leZ-yes, ltZ, ltZ-yes, ltZ-no, clashℤ}
 use Rattle.ints.proofs.Ring.{quotes}
 use Rattle.ints.proofs.Order.{_≼_, _≺_, le-fact, lt-fact, le-goal, positivePart, negativePart}
@@ -48,3 +48,22 @@ at-most-test a b h = go (ltZ a b) (λ t. ltZ-yes t)
 
 pub not-less-test : (a b : ℤ) → AtMost b a → ltZ a b ≡ false
 not-less-test a b h = at-most-test a b (le-goal (b ∷ a ∷ []) (search quotes) (omega arith))
+
+-- ---- of two negatives
+
+positive-negated : (z : ℤ) → positivePart (negℤ z) ≡ negativePart z
+positive-negated (pos zero) = refl
+positive-negated (pos (suc n)) = refl
+positive-negated (negsuc n) = refl
+
+negative-negated : (z : ℤ) → negativePart (negℤ z) ≡ positivePart z
+negative-negated (pos zero) = refl
+negative-negated (pos (suc n)) = refl
+negative-negated (negsuc n) = refl
+
+pub less-negated : (a b : ℤ) → ltZ (negℤ a) (negℤ b) ≡ ltZ b a
+less-negated a b = go (ltZ b a) refl
+  where
+    go : (t : Bool) → ltZ b a ≡ t → ltZ (negℤ a) (negℤ b) ≡ t
+    go true e = less-test (negℤ a) (negℤ b) (omega (comparisons, positive-negated a, negative-negated a, positive-negated b, negative-negated b))
+    go false e = not-less-test (negℤ a) (negℤ b) (omega (comparisons, positive-negated a, negative-negated a, positive-negated b, negative-negated b))

@@ -4,7 +4,6 @@ pub mod Order
 pub mod Comparisons
 pub mod Abs
 pub mod Powers
-pub mod Floor
 pub mod Rounding
 pub mod Sums
 pub mod Fit
@@ -12,4 +11,5 @@ pub mod Tables
 pub mod Filling
 pub mod Slices
 pub mod Mirror
+pub mod Negation
 pub mod Writing

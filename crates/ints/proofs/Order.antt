@@ -6,7 +6,6 @@
 use mathlib.Core.Path.{_≡_, refl, sym, _∙_, ap, ap₂, subst}
 use mathlib.Core.Bool.{Bool, true, false, not, cond, _&&_}
 use mathlib.Core.List.{List, [], _∷_}
-use mathlib.Core.Logic.{_⊎_, inl, inr, ⊎-elim}
 use Prim.Native.Nat.{ℕ, zero, suc, _+_, _*_, _-_, _≤_, _<_}
 use native.Mathlib.Nat.{zero-add}
 use native.Mathlib.Omega.{arith}
@@ -26,7 +25,7 @@ a ≺ b = _<ℤ_ a b
 
 -- ---- a ≼ b exactly where b is a and a natural number
 
-pub ≼-plus : (a : ℤ) (k : ℕ) → a ≼ a +ℤ pos k
+≼-plus : (a : ℤ) (k : ℕ) → a ≼ a +ℤ pos k
 ≼-plus (pos a) k = leZ-yes (le→leb a (a + k) (omega arith))
 ≼-plus (negsuc a) k = leZ-yes (go (ltb k (suc a)))
   where
@@ -55,7 +54,7 @@ gap-of (negsuc a) (negsuc b) t = (a - b, both (pos (suc b)) (pos (a - b)) ∙ ap
     e : b ≤ a → suc b + (a - b) ≡ suc a
     e h = omega arith
 
-pub gap : {a b : ℤ} → a ≼ b → (k : ℕ) × (b ≡ a +ℤ pos k)
+gap : {a b : ℤ} → a ≼ b → (k : ℕ) × (b ≡ a +ℤ pos k)
 gap {a} {b} h = gap-of a b (h .le)
 
 pub pos-inj : {m n : ℕ} → pos m ≡ pos n → m ≡ n
@@ -186,38 +185,12 @@ module _ (Γ : List ℤ) {a b : ℤ} where
   pub eq-goal : (e : Sides Γ a b) → lost Γ (difference e) ≡ gained Γ (difference e) → a ≡ b
   eq-goal e h = sym (gap-in-ℤ a b (gained Γ (difference e)) (lost Γ (difference e)) (difference-ok e) 0 (sym h ∙ sym (zero-add (lost Γ (difference e)))) ∙ +ℤ-idr a)
 
--- ---- transitive, antisymmetric, total; sums and products
+-- ---- equal from both sides, and by a test that computes: `equal-is a b tt` at closed integers. (`refl` would compare the terms before it computes them.)
 
-pub ≼-antisym : {a b : ℤ} → a ≼ b → b ≼ a → a ≡ b
+≼-antisym : {a b : ℤ} → a ≼ b → b ≼ a → a ≡ b
 ≼-antisym {a} {b} h k = let Γ = a ∷ b ∷ [] in
     eq-goal Γ (search quotes) (omega (arith, le-fact Γ h (search quotes), le-fact Γ k (search quotes)))
 
-pub ≼-≺-trans : {a b c : ℤ} → a ≼ b → b ≺ c → a ≺ c
-≼-≺-trans {a} {b} {c} h k = let Γ = a ∷ b ∷ c ∷ [] in
-    lt-goal Γ (search quotes) (omega (arith, le-fact Γ h (search quotes), lt-fact Γ k (search quotes)))
-
-pub ≼-total : (a b : ℤ) → (a ≼ b) ⊎ (b ≺ a)
-≼-total a b = go (ltZ b a) (λ t. ltZ-yes t) (λ t. ltZ-no t)
-  where
-    go : (c : Bool) → (T c → b ≺ a) → (T (not c) → a ≼ b) → (a ≼ b) ⊎ (b ≺ a)
-    go true f g = inr (f tt)
-    go false f g = inl (g tt)
-
--- a < b + 1 is a ≤ b
-pub ≼-of-≺-suc : {a b : ℤ} → a ≺ b +ℤ pos 1 → a ≼ b
-≼-of-≺-suc {a} {b} h = let Γ = a ∷ b ∷ [] in le-goal Γ (search quotes) (omega (arith, lt-fact Γ h (search quotes)))
-
-pub *-mono : {a b : ℤ} (c : ℕ) → a ≼ b → pos c *ℤ a ≼ pos c *ℤ b
-*-mono {a} {b} c h = go (gap h)
-  where
-    go : (k : ℕ) × (b ≡ a +ℤ pos k) → pos c *ℤ a ≼ pos c *ℤ b
-    go e = subst (λ (z : ℤ). pos c *ℤ a ≼ z) (ring (a ∷ pos c ∷ pos (e .0) ∷ []) (search quotes) tt ∙ ap (λ (z : ℤ). pos c *ℤ z) (sym (e .1)))
-        (≼-plus (pos c *ℤ a) (c * e .0))
-
-pub *-cancel-≺ : {a b : ℤ} (c : ℕ) → pos c *ℤ a ≺ pos c *ℤ b → a ≺ b
-*-cancel-≺ {a} {b} c h = ⊎-elim (λ k. clashℤ h (*-mono c k)) (λ k. k) (≼-total b a)
-
--- a test that computes: `equal-is a b tt` at closed integers. (`refl` would compare the terms before it computes them.)
 unfoldable pub equal : ℤ → ℤ → Bool
 equal a b = leZ a b && leZ b a
 

@@ -1,26 +1,70 @@
--- The rounded quotient. What later layers use of it is `rounded-near`, and of any rounding that is near, `exact-of-near`.
+-- The rounded quotient. What later layers use of it is that it is near and odd, and of any rounding that is near, that it is exact at the multiples.
 -- Example: `rounded-near 16384 (lit< tt) x : natAbs (pos 32768 *ℤ rounded 32768 x -ℤ x) ≤ 16384`.
-use mathlib.Core.Path.{_≡_, sym, _∙_, ap}
+use mathlib.Core.Path.{_≡_, refl, sym, _∙_, ap}
+use mathlib.Core.Bool.{Bool, true, false, not}
 use mathlib.Core.List.{[], _∷_}
-use Prim.Native.Nat.{ℕ, zero, suc, _+_, _-_, _*_, _/_, _≤_, _<_}
-use native.Mathlib.Nat.{div-eq-of-lt}
+use Prim.Native.Nat.{ℕ, zero, suc, _+_, _-_, _*_, _/_, _%_, _≤_, _<_}
+use native.Mathlib.Nat.{mod-lt, div-add-mod, add-zero, mul-le-mul-left, div-one, div-lt-iff-lt-mul, add-div-right, div-eq-of-lt, div-eq-of-eq-mul-right, div-div-eq-div-mul, mul-comm}
 use native.Mathlib.Omega.{arith}
-use lib.IntN.{ℤ, pos, negsuc, negℤ, natAbs, _+ℤ_, _-ℤ_, _*ℤ_}
-use lib.Signed.{mag}
-use Rattle.ints.specs.Quotient.{floor, rounded}
+use lib.Dec.{T, ltb, ltb→lt, nltb→le}
+use lib.IntN.{ℤ, pos, negsuc, negℤ, natAbs, negℤ-negℤ, _+ℤ_, _-ℤ_, _*ℤ_}
+use lib.Signed.{shrZ}
+use Rattle.ints.specs.Quotient.{rounded, roundedSize}
 use Rattle.ints.proofs.Ring.{ring, quotes, sub-zero}
-use Rattle.ints.proofs.Order.{eq-fact, eq-goal}
-use Rattle.ints.proofs.Abs.{abs-times, abs-zero}
-use Rattle.ints.proofs.Floor.{floor-exact, floor-rest, half-added-near}
+use Rattle.ints.proofs.Order.{eq-goal}
+use Rattle.ints.proofs.Abs.{abs-fact, abs-neg, abs-times, abs-zero}
 
-half-of : (h : ℕ) → 2 * h / 2 ≡ h
-half-of h = omega arith
+-- half of 2 h is h
+pub by-half : (h n : ℕ) → roundedSize (2 * h) n ≡ (n + h) / (2 * h)
+by-half h n = ap (λ (k : ℕ). (n + k) / (2 * h)) (omega arith)
 
 -- ---- near: the multiple of 2 h is at most h from x
 
+pub size-near : (h : ℕ) → zero < h → (n : ℕ) → natAbs (pos (2 * h) *ℤ pos ((n + h) / (2 * h)) -ℤ pos n) ≤ h
+size-near h z n = off ((n + h) / (2 * h)) ((n + h) % (2 * h)) (mod-lt (n + h) (omega arith)) (div-add-mod (n + h) (2 * h))
+  where
+    off : (q r : ℕ) → r < 2 * h → 2 * h * q + r ≡ n + h → natAbs (pos (2 * h) *ℤ pos q -ℤ pos n) ≤ h
+    off q r k e = let Γ = pos h ∷ pos q ∷ pos n ∷ [] in omega (arith, abs-fact Γ (pos (2 * h) *ℤ pos q -ℤ pos n) (search quotes depth 40))
+
 pub rounded-near : (h : ℕ) → zero < h → (x : ℤ) → natAbs (pos (2 * h) *ℤ rounded (2 * h) x -ℤ x) ≤ h
 unfolding rounded
-rounded-near h z x = rw half-of (half-added-near h z x)
+rounded-near h z (pos n) = rw (by-half h n) (size-near h z n)
+rounded-near h z (negsuc n) = rw (by-half h (suc n), over (pos ((suc n + h) / (2 * h))) (pos (suc n)), abs-neg) (size-near h z (suc n))
+  where
+    over : (q x : ℤ) → pos (2 * h) *ℤ negℤ q -ℤ negℤ x ≡ negℤ (pos (2 * h) *ℤ q -ℤ x)
+    over q x = ring (pos h ∷ q ∷ x ∷ []) (search quotes depth 40) tt
+
+-- ---- no larger than x, and so 0 for 0
+
+size-less : (d : ℕ) → zero < d → (n : ℕ) → roundedSize d n ≤ n
+size-less d z n = omega (arith, div-lt-iff-lt-mul {k = d} {x = n + d / 2} {y = n + 1} z .1 more)
+  where
+    more : n + d / 2 < (n + 1) * d
+    more = omega (arith, mul-le-mul-left n z)
+
+pub rounded-size : (d : ℕ) → zero < d → (x : ℤ) → natAbs (rounded d x) ≤ natAbs x
+unfolding rounded
+rounded-size d z (pos n) = size-less d z n
+rounded-size d z (negsuc n) = rw abs-neg (size-less d z (suc n))
+
+pub rounded-zero : (d : ℕ) → zero < d → rounded d (pos 0) ≡ pos 0
+rounded-zero d z = abs-zero (rounded d (pos 0)) (rounded-size d z (pos 0))
+
+-- ---- odd: the negative of x goes to the negative
+
+pub rounded-odd : (d : ℕ) → zero < d → (x : ℤ) → rounded d (negℤ x) ≡ negℤ (rounded d x)
+rounded-odd d z (pos zero) = rounded-zero d z ∙ sym (ap negℤ (rounded-zero d z))
+rounded-odd d z (pos (suc n)) = unfold rounded in refl
+rounded-odd d z (negsuc n) = unfold rounded in sym (negℤ-negℤ (pos (roundedSize d (suc n))))
+
+-- ---- the halves: k and a half goes to k + 1, and by `rounded-odd` −(k and a half) to −(k + 1)
+
+pub rounded-half : (h : ℕ) → zero < h → (k : ℕ) → rounded (2 * h) (pos (2 * h * k + h)) ≡ pos (suc k)
+unfolding rounded
+rounded-half h z k = ap pos (by-half h (2 * h * k + h) ∙ div-eq-of-eq-mul-right {n = 2 * h} (omega arith) up)
+  where
+    up : 2 * h * k + h + h ≡ 2 * h * suc k
+    up = omega arith
 
 -- ---- a rounding that is near is exact at the multiples
 
@@ -40,48 +84,50 @@ exact-of-near d R k near y = sub-zero (R (y *ℤ pos d)) y (multiple-zero (R (y 
     out : pos d *ℤ R (y *ℤ pos d) -ℤ y *ℤ pos d ≡ (R (y *ℤ pos d) -ℤ y) *ℤ pos d
     out = ring (R (y *ℤ pos d) ∷ y ∷ pos d ∷ []) (search quotes) tt
 
--- ---- as the machine has it: by half the divisor, rounded down, and then by 2
+-- ---- by a quotient rounded down, which is what the machine's shift to the right gives: document 01's (x + h) / 2 h, with one less for a negative x
 
-pub rounded-halves : (h : ℕ) → zero < h → (x : ℤ) → rounded 2 (floor x h) ≡ rounded (2 * h) x
+-- 1 for a negative x, and 0 for the others
+abbrev pub belowZero : ℤ → ℤ
+belowZero (pos n) = pos 0
+belowZero (negsuc n) = pos 1
+
+pub rounded-by-floor : (h : ℕ) → zero < h → (x : ℤ) → shrZ (x +ℤ pos h -ℤ belowZero x) (2 * h) ≡ rounded (2 * h) x
 unfolding rounded
-rounded-halves h z x = let s = floor-rest x h z in let t = floor-rest (floor x h +ℤ pos 1) 2 (omega arith) in
-    rw half-of (go (floor x h) (floor (floor x h +ℤ pos 1) 2) (t .rest) (s .rest) (t .small) (s .small) (t .whole) (s .whole))
+rounded-by-floor h z (pos n) = rw (by-half h n) (ap (λ (y : ℤ). shrZ y (2 * h)) same)
   where
-    below : (b r : ℕ) → b < 2 → r < h → h * b + r < 2 * h
-    below zero r j k = omega arith
-    below (suc zero) r j k = omega arith
-    below (suc (suc b)) r j k = omega arith
+    same : pos (n + h) -ℤ pos 0 ≡ pos (n + h)
+    same = ring (pos (n + h) ∷ []) (search quotes) tt
+rounded-by-floor h z (negsuc n) = rw (by-half h (suc n)) (go (ltb (suc n) h) (ltb→lt (suc n) h) (nltb→le (suc n) h))
+  where
+    -- −a + h − 1, where a is below h, and where it is not
+    small : (a r : ℕ) → r + a + 1 ≡ h → negℤ (pos a) +ℤ pos h -ℤ pos 1 ≡ pos r
+    small a r e = let Γ = pos a ∷ pos h ∷ pos r ∷ [] in eq-goal Γ (search quotes depth 40) (omega arith)
 
-    more : (q : ℤ) (r : ℕ) → pos h *ℤ q +ℤ pos r +ℤ pos h ≡ pos h *ℤ (q +ℤ pos 1) +ℤ pos r
-    more q r = ring (q ∷ pos h ∷ pos r ∷ []) (search quotes depth 40) tt
+    large : (a r : ℕ) → h + r ≡ a → negℤ (pos a) +ℤ pos h -ℤ pos 1 ≡ negℤ (pos (suc r))
+    large a r e = let Γ = pos a ∷ pos h ∷ pos (suc r) ∷ [] in eq-goal Γ (search quotes depth 40) (omega arith)
 
-    out : (f : ℤ) (b r : ℕ) → pos h *ℤ (pos 2 *ℤ f +ℤ pos b) +ℤ pos r ≡ pos (2 * h) *ℤ f +ℤ pos (h * b + r)
-    out f b r = ring (f ∷ pos h ∷ pos b ∷ pos r ∷ []) (search quotes depth 40) tt
+    more : (r : ℕ) → suc (r / (2 * h)) ≡ (r + 2 * h) / (2 * h)
+    more r = omega (arith, add-div-right r {k = 2 * h} (omega arith))
 
-    -- q is the quotient by h with the rest r, and f that of q + 1 by 2 with the rest b
-    go : (q f : ℤ) (b r : ℕ) → b < 2 → r < h → q +ℤ pos 1 ≡ pos 2 *ℤ f +ℤ pos b → x ≡ pos h *ℤ q +ℤ pos r → f ≡ floor (x +ℤ pos h) (2 * h)
-    go q f b r j k eq ex = sym (ap (λ (y : ℤ). floor y (2 * h)) e ∙ floor-exact (2 * h) f (h * b + r) (below b r j k))
-      where
-        e : x +ℤ pos h ≡ pos (2 * h) *ℤ f +ℤ pos (h * b + r)
-        e = ap (λ (y : ℤ). y +ℤ pos h) ex ∙ more q r ∙ ap (λ (y : ℤ). pos h *ℤ y +ℤ pos r) eq ∙ out f b r
+    go : (t : Bool) → (T t → suc n < h) → (T (not t) → h ≤ suc n) → shrZ (negsuc n +ℤ pos h -ℤ pos 1) (2 * h) ≡ negℤ (pos ((suc n + h) / (2 * h)))
+    go true near far = let k = near tt in ap (λ (y : ℤ). shrZ y (2 * h)) (small (suc n) (h - suc n - 1) (omega arith))
+        ∙ ap pos (div-eq-of-lt {n = h - suc n - 1} {m = 2 * h} (omega arith)) ∙ sym (ap (λ (q : ℕ). negℤ (pos q)) (div-eq-of-lt {n = suc n + h} {m = 2 * h} (omega arith)))
+    go false near far = let k = far tt in let up : suc n - h + 2 * h ≡ suc n + h = omega arith in
+        ap (λ (y : ℤ). shrZ y (2 * h)) (large (suc n) (suc n - h) (omega arith)) ∙ ap (λ (q : ℕ). negℤ (pos q)) (more (suc n - h) ∙ ap (λ (m : ℕ). m / (2 * h)) up)
 
--- half of x, halves up, is what is left of x when its half, rounded down, is taken away
-pub half-left : (x : ℤ) → x -ℤ floor x 2 ≡ rounded 2 x
-unfolding rounded
-half-left x = let s = floor-rest x 2 (omega arith) in let t = floor-rest (x +ℤ pos 1) 2 (omega arith) in
-    let Γ = x ∷ floor x 2 ∷ floor (x +ℤ pos 1) 2 ∷ pos (s .rest) ∷ pos (t .rest) ∷ [] in
-    eq-goal Γ (search quotes) (omega (arith, s .small, t .small, eq-fact Γ (s .whole) (search quotes), eq-fact Γ (t .whole) (search quotes)))
+-- ---- as the machine has it: so many halves of the divisor, of which two make one, and so does a last one alone
+
+pub size-by-halves : (h : ℕ) → zero < h → (n : ℕ) → (n / h + 1) / 2 ≡ (n + h) / (2 * h)
+size-by-halves h z n = ap (λ (m : ℕ). m / 2) (sym (add-div-right n z)) ∙ div-div-eq-div-mul (n + h) h 2 ∙ ap (λ (d : ℕ). (n + h) / d) (mul-comm h 2)
 
 -- ---- the divisors that no shift reaches: 1, and those above twice the size of x
 
 pub rounded-by-one : (x : ℤ) → rounded 1 x ≡ x
 unfolding rounded
-rounded-by-one x = ap (λ (y : ℤ). floor y 1) (ring (x ∷ []) (search quotes) tt) ∙ floor-exact 1 x 0 (omega arith)
+rounded-by-one (pos n) = ap pos (div-one (n + 0) ∙ add-zero n)
+rounded-by-one (negsuc n) = ap (λ (q : ℕ). negℤ (pos q)) (div-one (suc n + 0) ∙ add-zero (suc n))
 
-pub rounded-small : (h : ℕ) (x : ℤ) → mag x < h → rounded (2 * h) x ≡ pos 0
-unfolding rounded floor
-rounded-small h (pos n) k = rw half-of (ap pos (div-eq-of-lt (omega arith)))
-rounded-small h (negsuc n) k = rw (half-of, cross (suc n) h (h - suc n) (omega arith)) (ap pos (div-eq-of-lt (omega arith)))
-  where
-    cross : (a b r : ℕ) → r + a ≡ b → negℤ (pos a) +ℤ pos b ≡ pos r
-    cross a b r e = rw (sym e) (ring (pos a ∷ pos r ∷ []) (search quotes) tt)
+pub rounded-small : (h : ℕ) (x : ℤ) → natAbs x < h → rounded (2 * h) x ≡ pos 0
+unfolding rounded
+rounded-small h (pos n) k = rw (by-half h n) (ap pos (div-eq-of-lt (omega arith)))
+rounded-small h (negsuc n) k = rw (by-half h (suc n)) (ap (λ (q : ℕ). negℤ (pos q)) (div-eq-of-lt {n = suc n + h} {m = 2 * h} (omega arith)))

@@ -1,14 +1,13 @@
--- Quotients in whole numbers: rounded down, and rounded to the nearest.
--- Example: `floor (negsuc 6) 2` is −4, the floor of −7 / 2; `rounded 2 (negsuc 6)` is −3, since −3.5 goes up.
-use Prim.Native.Nat.{ℕ, _/_}
-use lib.IntN.{ℤ, pos, negsuc, _+ℤ_}
+-- The rounded quotient. Example: `rounded 2 (pos 7)` is 4, since 3.5 goes away from zero, and `rounded 2 (negℤ (pos 7))` is −4.
+use Prim.Native.Nat.{ℕ, suc, _+_, _/_}
+use lib.IntN.{ℤ, pos, negsuc, negℤ}
 
--- z / d, rounded down. `negsuc n` is −(n + 1), and −(n + 1) / d rounded down is −(n / d + 1).
-unfoldable pub floor : ℤ → ℕ → ℤ
-floor (pos n) d = pos (n / d)
-floor (negsuc n) d = negsuc (n / d)
+-- a size n divided by d, to the nearest, halves up: (n + d/2) / d, rounded down
+abbrev pub roundedSize : ℕ → ℕ → ℕ
+roundedSize d n = (n + d / 2) / d
 
--- Document 01, Levels 3: (x + 16,384) / 32,768, rounded down, where d is 32,768; and the division of the backward spectrum,
--- (x + N/2) / N, rounded down, where d is N. So x / d to the nearest, halves up.
+-- Document 01, Levels 3, where d is 32,768, and the division of the backward spectrum, where d is N. Document 02, Item 1: halves go away from
+-- zero. So the size of x is rounded, halves up, and x keeps its sign. `negsuc n` is −(n + 1).
 unfoldable pub rounded : ℕ → ℤ → ℤ
-rounded d x = floor (x +ℤ pos (d / 2)) d
+rounded d (pos n) = pos (roundedSize d n)
+rounded d (negsuc n) = negℤ (pos (roundedSize d (suc n)))

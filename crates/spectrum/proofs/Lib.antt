@@ -11,3 +11,4 @@ pub mod Magnitude
 pub mod FirstLine
 pub mod ForwardDistance
 pub mod Loudness
+pub mod Negative

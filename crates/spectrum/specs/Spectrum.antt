@@ -1,4 +1,4 @@
--- Document 01, Levels: the forward and the backward spectrum, with the table and the rounding of document 01, at any scale 2^s.
+-- Document 01, Levels: the forward and the backward spectrum, with the table of document 01 and the rounded quotient, at any scale 2^s.
 use mathlib.Core.List.{List, map}
 use Prim.Native.Nat.{ℕ, _^_}
 use lib.IntN.{ℤ}
@@ -37,7 +37,7 @@ unfoldable pub forward : ℕ → List ℤ → List ℤ
 unfolding forwardAt
 forward P xs = forwardAt SCALE-DIGITS P xs
 
--- backward: the same steps on a spectrum, then each cell becomes (x + N/2) / N, rounded down
+-- backward: the same steps on a spectrum, then each cell is divided by N with rounding
 unfoldable pub backward : ℕ → List ℤ → List ℤ
 unfolding forward rounded
 backward P xs = map (rounded (2 ^ P)) (forward P xs)

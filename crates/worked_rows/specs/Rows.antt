@@ -1,28 +1,29 @@
--- Document 01, Samples worked by hand: those with a star, as rows of one table. That every row holds is proved in proofs/RowsHold.antt.
+-- Document 01, Samples worked by hand: those with a star, as rows of one table; the third is as document 02, Item 1 amends it. That every row holds is
+-- proved in proofs/RowsHold.antt.
 use mathlib.Core.Path.{_≡_}
 use mathlib.Core.List.{List, [], _∷_, map}
 use lib.IntN.{ℤ, pos, negℤ, _*ℤ_}
-use Rattle.ints.specs.Quotient.{floor, rounded}
+use Rattle.ints.specs.Quotient.{rounded}
 use Rattle.kind.specs.BlockKinds.{SCALE, SCALE-DIGITS}
 use Rattle.cosine.specs.Cosine.{quarterTable}
 use Rattle.spectrum.specs.Spectrum.{forward, backward}
 
--- what a definition gives, and what document 01 says that it gives
+-- what a definition gives, and what the papers say that it gives
 pub record Row : Type 0 where
   pub given : List ℤ
   pub said : List ℤ
 
 unfoldable pub rows : List Row
-unfolding floor rounded quarterTable forward backward
+unfolding rounded quarterTable forward backward
 rows =
     -- T at 0, 64, 128, 192, 256
     record {
       given = map (λ j. pos (quarterTable SCALE-DIGITS j)) (0 ∷ 64 ∷ 128 ∷ 192 ∷ 256 ∷ []);
       said = pos 32768 ∷ pos 30274 ∷ pos 23170 ∷ pos 12540 ∷ pos 0 ∷ [];
     }
-    -- the rounding of 8,192 × 23,170, and of minus that
+    -- the rounding of 8,192 × 23,170, and of minus that: 5,792.5 becomes 5,793 and -5,792.5 becomes -5,793
     ∷ record { given = rounded SCALE (pos 8192 *ℤ pos 23170) ∷ []; said = pos 5793 ∷ [] }
-    ∷ record { given = rounded SCALE (negℤ (pos 8192 *ℤ pos 23170)) ∷ []; said = negℤ (pos 5792) ∷ [] }
+    ∷ record { given = rounded SCALE (negℤ (pos 8192 *ℤ pos 23170)) ∷ []; said = negℤ (pos 5793) ∷ [] }
     -- {0, 0} gives {0, 0}
     ∷ record { given = forward 1 (pos 0 ∷ pos 0 ∷ []); said = pos 0 ∷ pos 0 ∷ [] }
     -- {3, -5} gives {-2, 8}
@@ -40,6 +41,9 @@ rows =
       given = forward 3 (pos 0 ∷ pos 1 ∷ pos 0 ∷ pos 0 ∷ pos 0 ∷ pos 0 ∷ pos 0 ∷ pos 0 ∷ []);
       said = pos 1 ∷ pos 1 ∷ pos 1 ∷ pos 0 ∷ negℤ (pos 1) ∷ negℤ (pos 1) ∷ negℤ (pos 1) ∷ pos 0 ∷ [];
     }
+    -- and two by hand for document 02, Item 1: backward of {3, 0} divides 3 by 2 twice, of {-3, 0} minus 3
+    ∷ record { given = backward 1 (pos 3 ∷ pos 0 ∷ []); said = pos 2 ∷ pos 2 ∷ [] }
+    ∷ record { given = backward 1 (negℤ (pos 3) ∷ pos 0 ∷ []); said = negℤ (pos 2) ∷ negℤ (pos 2) ∷ [] }
     ∷ []
 
 -- every row's two sides are equal

@@ -2,7 +2,7 @@
 //! difference.
 
 use crate::archive::{self, Lent};
-use crate::inputs::cells_of;
+use crate::inputs::{cells_of, negated};
 use crate::random::Random;
 use crate::tally::{Call, Tally};
 use std::io::Write;
@@ -80,6 +80,27 @@ impl Comparison {
         }
         let result = if call == Call::Power { lent_output } else { lent };
         (answer, result.bytes().to_vec())
+    }
+
+    /// A block as above and its negative, by forward or backward. Where both are taken, what is left of the one is the
+    /// negative of what is left of the other; and backward answers both alike.
+    pub fn both_signs(&mut self, call: Call, sort: &'static str, cells: &[u8]) -> Vec<u8> {
+        let (answer, left) = self.block(call, sort, cells, &[]);
+        let negative = negated(cells);
+        let (its_answer, its_left) = self.block(call, sort, &negative, &[]);
+        let answers = [answer.to_string(), its_answer.to_string()];
+        let run = Run { call, sort, input: cells, output: 0, answers };
+        let tellable = !cells_of(cells).contains(&i64::MIN); // whose negative is itself here
+        if call == Call::Backward && tellable {
+            self.same(&run, "answer for the negative", its_answer, answer);
+        }
+        if answer == 0 && its_answer == 0 {
+            self.same_bytes(&run, "result for the negative", &its_left, &negated(&left));
+            self.tally.count_both(call, (cells.len() / 8).ilog2(), oracle::halves(&cells_of(cells)));
+        } else if answer == 0 {
+            self.tally.only_one_sign += 1;
+        }
+        left
     }
 
     /// The check of a trace. Gives the answer.

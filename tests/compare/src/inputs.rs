@@ -10,10 +10,15 @@ pub const SAMPLES: (i64, i64) = (-32_768, 32_767);
 pub const LINES: (i64, i64) = (-(1 << 28), 1 << 28);
 
 /// The shapes of a block. Those that stand here twice come twice as often.
-pub const SHAPES: [&str; 13] = [
+pub const SHAPES: [&str; 15] = [
     "full range", "signs of cas", "up to 100", "all lowest", "either limit", "single cell", "full range",
-    "signs of cas", "up to 1", "all highest", "alternating", "ramp", "zeros",
+    "unit of halves", "signs of cas", "up to 1", "all highest", "alternating", "ramp", "pair of halves", "zeros",
 ];
+
+/// A cosine and a sine of 23,170, an eighth of a turn on, make a half of an odd multiple of 8,192 (document 01 works
+/// 8,192 × 23,170 by hand). A cell of an odd multiple of 4,096 brings it to level 3 twice; so do two cells of odd
+/// multiples of 2,048 whose sum is such.
+const UNIT: i64 = 4096;
 
 /// A block of n cells of the named shape, each from low to high.
 pub fn shaped(shape: &str, n: usize, (low, high): (i64, i64), random: &mut Random) -> Vec<i64> {
@@ -22,6 +27,8 @@ pub fn shaped(shape: &str, n: usize, (low, high): (i64, i64), random: &mut Rando
     let single = random.pick(&[1, -1, low, high, any]);
     let step = random.between(-high / 64, high / 64);
     let (more, less) = random.pick(&[(high, low), (low, high)]);
+    let unit = odd_multiple(UNIT, high, random);
+    let (part, partner) = (odd_multiple(UNIT / 2, high / 4, random), random.below(n.max(1)));
     let mut cells = Vec::new();
     for t in 0..n {
         cells.push(match shape {
@@ -32,6 +39,9 @@ pub fn shaped(shape: &str, n: usize, (low, high): (i64, i64), random: &mut Rando
             "all highest" => high,
             "either limit" => random.pick(&[low, high]),
             "single cell" if t == place => single,
+            "unit of halves" if t == place => unit,
+            "pair of halves" if t == place => part,
+            "pair of halves" if t == partner => UNIT - part,
             "ramp" => (any + step * t as i64).clamp(low, high),
             "alternating" if t % 2 == 0 => more,
             "alternating" => less,
@@ -41,6 +51,23 @@ pub fn shaped(shape: &str, n: usize, (low, high): (i64, i64), random: &mut Rando
         });
     }
     cells
+}
+
+/// An odd multiple of a unit, above or below zero, of at most so much.
+fn odd_multiple(unit: i64, most: i64, random: &mut Random) -> i64 {
+    let odd = 2 * random.between(0, (most / unit - 1) / 2) + 1;
+    random.pick(&[1, -1]) * odd * unit
+}
+
+/// The same cells with every sign reversed; a byte left over stays.
+pub fn negated(bytes: &[u8]) -> Vec<u8> {
+    let mut negative: Vec<i64> = cells_of(bytes);
+    for cell in &mut negative {
+        *cell = cell.wrapping_neg();
+    }
+    let mut negative = bytes_of(&negative);
+    negative.extend_from_slice(&bytes[negative.len()..]);
+    negative
 }
 
 /// Cosine plus sine after j of a turn's 1,024 steps. Samples of its sign make a line as large as it can be.

@@ -47,7 +47,7 @@ fn main() {
             lengths(&mut c, call);
             for _ in 0..SEVERAL {
                 let (cells, output) = several_faults(limits_of(call), &mut c.random);
-                c.block(call, "several faults", &cells, &output);
+                block_call(&mut c, call, "several faults", &cells, &output);
             }
         }
         traces(&mut c);
@@ -57,20 +57,29 @@ fn main() {
     println!("\ncomparison: ok, {} inputs", c.tally.inputs);
 }
 
-/// Accepted blocks: forward; backward and power of what it left; the same of spectra.
+/// Accepted blocks: forward; backward and power of what it left; the same of spectra. Forward and backward take each
+/// with its negative.
 fn blocks(c: &mut Comparison, p: usize) {
     let n = LENGTHS[p - 1];
     for i in 0..BLOCKS[p - 1] {
         let shape = SHAPES[i % SHAPES.len()];
         let samples = shaped(shape, n, SAMPLES, &mut c.random);
-        let (_, lines) = c.block(Call::Forward, shape, &bytes_of(&samples), &[]);
+        let lines = c.both_signs(Call::Forward, shape, &bytes_of(&samples));
         let spectrum = bytes_of(&shaped(shape, n, LINES, &mut c.random));
         for (sort, given) in [("what forward left", lines), ("spectra so shaped", spectrum)] {
-            c.block(Call::Backward, sort, &given, &[]);
+            c.both_signs(Call::Backward, sort, &given);
             let output = c.random.bytes(8 * (n / 2 + 1));
             c.block(Call::Power, sort, &given, &output);
         }
     }
+}
+
+/// One input of a call on a block; forward and backward take it with its negative.
+fn block_call(c: &mut Comparison, call: Call, sort: &'static str, cells: &[u8], output: &[u8]) {
+    match call {
+        Call::Power => c.block(call, sort, cells, output).1,
+        _ => c.both_signs(call, sort, cells),
+    };
 }
 
 /// Cells at the limits, which pass, one step outside and far outside, in one place and in several.
@@ -82,13 +91,13 @@ fn limits(c: &mut Comparison, call: Call) {
             for place in [0, n - 1, c.random.below(n)] {
                 let mut cells = shaped("full range", n, (low, high), &mut c.random);
                 cells[place] = value;
-                c.block(call, "cell at a limit or outside", &bytes_of(&cells), &output);
+                block_call(c, call, "cell at a limit or outside", &bytes_of(&cells), &output);
             }
         }
         for _ in 0..10 {
             let mut cells = shaped("full range", n, (low, high), &mut c.random);
             make_loud(&mut cells, (low, high), &mut c.random);
-            c.block(call, "cells outside", &bytes_of(&cells), &output);
+            block_call(c, call, "cells outside", &bytes_of(&cells), &output);
         }
     }
 }
@@ -105,13 +114,13 @@ fn lengths(c: &mut Comparison, call: Call) {
     for count in (0..600).chain([1022, 1023, 1024, 1025, 2047, 2048, 2049, 4096, 65_536]) {
         let cells = shaped("full range", count, limits_of(call), &mut c.random);
         let output = c.random.bytes(8 * (count / 2 + 1));
-        c.block(call, "length", &bytes_of(&cells), &output);
+        block_call(c, call, "length", &bytes_of(&cells), &output);
     }
     for n in LENGTHS {
         let cells = bytes_of(&shaped("up to 100", n + 1, limits_of(call), &mut c.random));
         let output = c.random.bytes(8 * (n / 2 + 1));
         for count in 8 * n - 7..=8 * n + 7 {
-            c.block(call, "bytes left over", &cells[..count], &output);
+            block_call(c, call, "bytes left over", &cells[..count], &output);
         }
     }
 }

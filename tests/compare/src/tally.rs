@@ -22,9 +22,12 @@ pub struct Tally {
     pub inputs: u64,
     rows: Rows,
     totals: Rows,
-    accepted: BTreeSet<(Call, u32)>, // each P that each call accepted
-    pub measured: [u64; 11],         // for each P the blocks measured
-    pub farthest: [i128; 11],        // and the largest distance, times 2^60
+    accepted: BTreeSet<(Call, u32)>,        // each P that each call accepted
+    both_signs: BTreeMap<(Call, u32), u64>, // for each call and P the blocks that it took with their negatives
+    pub only_one_sign: u64,                 // and the blocks that it took without
+    halves: BTreeMap<Call, [[u64; 2]; 2]>,  // the halves, above and below zero, at the levels and then in the division
+    pub measured: [u64; 11],                // for each P the blocks measured
+    pub farthest: [i128; 11],               // and the largest distance, times 2^60
 }
 
 impl Tally {
@@ -38,6 +41,15 @@ impl Tally {
         }
     }
 
+    /// Counts a block that was taken with its negative, and the halves that its divisions meet.
+    pub fn count_both(&mut self, call: Call, p: u32, halves: [[u64; 2]; 2]) {
+        *self.both_signs.entry((call, p)).or_default() += 1;
+        let met = self.halves.entry(call).or_default();
+        for (met, halves) in met.iter_mut().flatten().zip(halves.iter().flatten()) {
+            *met += halves;
+        }
+    }
+
     pub fn print(&self) {
         let numbers = NUMBERS.map(|number| format!("{number:>7}")).concat();
         println!("{:36}{:>8}{:>9}{numbers}", "inputs", "run", "accepted");
@@ -46,6 +58,18 @@ impl Tally {
             let refused = NUMBERS.map(|number| format!("{:>7}", row[number])).concat();
             println!("{:36}{run:>8}{:>9}{refused}", format!("{call:?}, {sort}"), row[0]);
         }
+        println!(
+            "\n{:20}{:>8}{:>32}{:>32}",
+            "with the negative", "blocks", "halves at the levels", "halves in the division"
+        );
+        for (call, [[above, below], [over, under]]) in &self.halves {
+            let pairs: u64 = self.both_signs.iter().filter(|((its, _), _)| its == call).map(|(_, pairs)| pairs).sum();
+            let levels = format!("{above} above zero, {below} below");
+            let division =
+                if *call == Call::Forward { String::new() } else { format!("{over} above zero, {under} below") };
+            println!("{:20}{pairs:>8}{levels:>32}{division:>32}", format!("{call:?}"));
+        }
+        println!("and {} blocks that forward takes without it", self.only_one_sign);
         println!("\n{:>2}{:>9}{:>18}{:>8}", "P", "blocks", "largest distance", "E(P)");
         for p in 1..=10 {
             let far = (self.farthest[p] * 1000 + (1 << 60) - 1) / (1 << 60); // rounded up
@@ -54,8 +78,18 @@ impl Tally {
         }
     }
 
-    /// Ends the program if a call never accepted some P or never gave one of its refusals.
+    /// Ends the program if a call never accepted some P or never gave one of its refusals, if no block of some P was taken
+    /// with its negative, or if a division never met a half.
     pub fn must_be_complete(&self) {
+        for call in [Call::Forward, Call::Backward] {
+            let every_p = (1..=10).all(|p| self.both_signs.contains_key(&(call, p)));
+            let [levels, division] = self.halves[&call];
+            let every_half = !levels.contains(&0) && (call == Call::Forward || !division.contains(&0));
+            if !every_p || !every_half || self.only_one_sign == 0 {
+                println!("comparison: {call:?} has not shown every half and every P with its negative");
+                exit(1);
+            }
+        }
         for (call, refusals) in [
             (Call::Forward, &[1, 3][..]),
             (Call::Backward, &[1, 3]),

@@ -1,5 +1,5 @@
-//! The samples that document 01 works by hand, as far as the archive and the listing program show them. The comparison
-//! finds both equal to the second program; here they are found equal to the document's figures.
+//! The samples that document 01 works by hand, and some of document 02, as far as the archive and the listing program
+//! show them. The comparison finds both equal to the second program; here they are found equal to the papers' figures.
 
 use crate::compare::{accepted, refused, Comparison};
 use crate::inputs::{bytes_of, cells_of};
@@ -30,6 +30,12 @@ pub fn samples(c: &mut Comparison) {
     block(c, Call::Power, &[10, -4, -2, 0], &[200, 16, 8]);
     block(c, Call::Forward, &[1, 2, 3, 4, 5, 6, 7, 8], &[36, -14, -8, -6, -4, -2, 0, 6]);
     block(c, Call::Forward, &[0, 1, 0, 0, 0, 0, 0, 0], &[1, 1, 1, 0, -1, -1, -1, 0]);
+
+    // Halves away from zero (document 02, Item 1): 5,792.5 and 3 / 2, and their negatives.
+    block(c, Call::Forward, &[0, 4096, 0, 0, 0, 0, 0, 0], &[4096, 5793, 4096, 0, -4096, -5793, -4096, 0]);
+    block(c, Call::Forward, &[0, -4096, 0, 0, 0, 0, 0, 0], &[-4096, -5793, -4096, 0, 4096, 5793, 4096, 0]);
+    block(c, Call::Backward, &[3, 0], &[2, 2]);
+    block(c, Call::Backward, &[-3, 0], &[-2, -2]);
 
     // Lengths and loud samples.
     for (count, answer) in [(0, 1), (1, 1), (3, 1), (2048, 1), (1024, 0)] {

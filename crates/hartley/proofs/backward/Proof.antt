@@ -12,14 +12,16 @@ use Rattle.block.specs.Tests.{testedSpectrum}
 use Rattle.block.specs.BlockAnswers.{blockAnswer, cellsLeft, verdictNumbers, answerNumbers}
 use Rattle.block.proofs.Taken.{spectrum-accepted}
 use Rattle.spectrum.specs.Spectrum.{backward}
-use Rattle.hartley.specs.Promises.{backwardLeft}
+use Rattle.hartley.specs.Promises.{NegativeBlock, backwardLeft}
+use Rattle.hartley.proofs.BackwardLeft.{negative-block}
 use Rattle.hartley.proofs.backward.Statement.{statement}
 use Rattle.hartley.proofs.backward.Tie as tie
 
 -- r is answered for the lent xs, and zs is left, by what the tests have found
 promised : (xs zs : List ℤ) {r : Answer} {k : BlockVerdict} → testedSpectrum [] xs ≡ k → r ≡ blockAnswer k → answerNumbers r ≡ verdictNumbers k → zs ≡ cellsLeft (λ P. backward P xs) xs k
-    → (r ≡ blockAnswer (testedSpectrum [] xs)) × ((answerNumbers r ≡ verdictNumbers (testedSpectrum [] xs)) × (zs ≡ backwardLeft xs))
-promised xs zs e a n z = (a ∙ sym (ap blockAnswer e), (n ∙ sym (ap verdictNumbers e), z ∙ sym (ap (cellsLeft (λ P. backward P xs) xs) e)))
+    → (r ≡ blockAnswer (testedSpectrum [] xs)) × ((answerNumbers r ≡ verdictNumbers (testedSpectrum [] xs)) × ((zs ≡ backwardLeft xs) × NegativeBlock xs zs))
+promised xs zs e a n z = let left : zs ≡ backwardLeft xs = z ∙ sym (ap (cellsLeft (λ P. backward P xs) xs) e) in
+    (a ∙ sym (ap blockAnswer e), (n ∙ sym (ap verdictNumbers e), (left, rw left (negative-block xs))))
 
 -- what `tested_spectrum` has found of the lent spectrum
 taken : (k : tie.After-kind) → testedSpectrum [] (now (k .before .before .before .before .before .args .cells)) ≡ Taken (k .kind .given .0 .0)

@@ -66,17 +66,17 @@ abbrev μ-loop : tie.MeasureT-loop
 loop-holds : tie.Need-loop-holds Inv-loop μ-loop
 loop-holds c = mapped-none _ _ _ (omega arith)
 
-mul-rounded : tie.Need-mul-rounded Inv-loop μ-loop
-mul-rounded c = search needs
+mul-x : tie.Need-mul-x Inv-loop μ-loop
+mul-x c = search needs
 
-slice-copy-out-rounded : tie.Need-slice-copy-out-rounded Inv-loop μ-loop
-slice-copy-out-rounded c = search needs
+slice-copy-out-x : tie.Need-slice-copy-out-x Inv-loop μ-loop
+slice-copy-out-x c = search needs
 
 rounded-requires : tie.Need-rounded-requires Inv-loop μ-loop
 rounded-requires c κs = search needs
 
-mul-t9 : tie.Need-mul-t9 Inv-loop μ-loop
-mul-t9 c = search needs
+mul-t5 : tie.Need-mul-t5 Inv-loop μ-loop
+mul-t5 c = search needs
 
 slice-set-from-cells : tie.Need-slice-set-from-cells Inv-loop μ-loop
 slice-set-from-cells c = search needs
@@ -90,7 +90,7 @@ loop-less c = simp length-set (omega arith)
 loop-again : tie.Need-loop-again Inv-loop μ-loop
 loop-again c = let a = c .before .before .before .loop in
     mapped-next _ _ (a .cells) (a .i) _ _ _ _ (omega arith)
-    (written _ _ _ _ _ (c .rounded .ok) (c .before .rounded-arg .given) (c .rounded .ensures) (search needs) (omega arith)) (omega arith) (omega arith) (omega arith) (a .inv)
+    (written _ _ _ _ _ (c .rounded .ok) (c .before .x .given) (c .rounded .ensures) (search needs) (omega arith)) (omega arith) (omega arith) (omega arith) (a .inv)
 
 same-length : tie.Need-same-length Inv-loop μ-loop
 same-length c = c .before .loop .inv .long
@@ -105,10 +105,10 @@ divide-spec =
     Inv-loop
     μ-loop
     loop-holds
-    mul-rounded
-    slice-copy-out-rounded
+    mul-x
+    slice-copy-out-x
     rounded-requires
-    mul-t9
+    mul-t5
     slice-set-from-cells
     add-i
     loop-less

@@ -1,4 +1,5 @@
--- `forward` is right because `tested_samples` finds the first fault or none, and `transform` leaves the spectrum, of which demand 3 and line 0 are laws.
+-- `forward` is right because `tested_samples` finds the first fault or none, and `transform` leaves the spectrum, of which demand 3, line 0 and
+-- the negative are laws.
 use borrow.Author.Needs.{needs}
 use mathlib.Core.Path.{_≡_, refl, sym, _∙_, ap}
 use mathlib.Core.List.{List}
@@ -13,8 +14,8 @@ use Rattle.block.specs.declared.Answer.{Answer}
 use Rattle.block.specs.declared.Answer.the-variants.{Done, Refused}
 use Rattle.block.proofs.Taken.{samples-accepted}
 use Rattle.spectrum.specs.Spectrum.{forward}
-use Rattle.hartley.specs.Promises.{FirstLineExact, NearDirectSum, forwardLeft}
-use Rattle.hartley.proofs.ForwardTaken.{first-line-exact, near-direct-sum}
+use Rattle.hartley.specs.Promises.{FirstLineExact, NearDirectSum, NegativeSpectrum, forwardLeft}
+use Rattle.hartley.proofs.ForwardTaken.{first-line-exact, near-direct-sum, negative-spectrum}
 use Rattle.hartley.proofs.forward.Statement.{statement}
 use Rattle.hartley.proofs.forward.Tie as tie
 
@@ -22,12 +23,23 @@ use Rattle.hartley.proofs.forward.Tie as tie
 module _ (xs zs : List ℤ) (r : Answer) where
   abbrev Promised : Type 0
   Promised = (r ≡ blockAnswer (testedSamples xs)) × ((answerNumbers r ≡ verdictNumbers (testedSamples xs))
-      × ((zs ≡ forwardLeft xs) × ((r ≡ Done → NearDirectSum xs zs) × (r ≡ Done → FirstLineExact xs zs))))
+      × ((zs ≡ forwardLeft xs) × ((r ≡ Done → NearDirectSum xs zs) × ((r ≡ Done → FirstLineExact xs zs) × (r ≡ Done → NegativeSpectrum xs zs)))))
 
   -- by what the tests have found
   promised : (k : BlockVerdict) → testedSamples xs ≡ k → r ≡ blockAnswer k → answerNumbers r ≡ verdictNumbers k → zs ≡ cellsLeft (λ P. forward P xs) xs k → Promised
-  promised k e a n z = let answer = a ∙ sym (ap blockAnswer e) in let left = z ∙ sym (ap (cellsLeft (λ P. forward P xs) xs) e) in
-      (answer, (n ∙ sym (ap verdictNumbers e), (left, (λ d. rw left (near-direct-sum xs (sym answer ∙ d)), λ d. rw left (first-line-exact xs (sym answer ∙ d))))))
+  promised k e a n z = let answer = a ∙ sym (ap blockAnswer e) in let left = z ∙ sym (ap (cellsLeft (λ P. forward P xs) xs) e) in (
+    answer,
+    (
+      n ∙ sym (ap verdictNumbers e),
+      (
+        left,
+        (
+          λ d. rw left (near-direct-sum xs (sym answer ∙ d)),
+          (λ d. rw left (first-line-exact xs (sym answer ∙ d)), λ d. rw left (negative-spectrum xs (sym answer ∙ d))),
+        ),
+      ),
+    ),
+  )
 
 -- a refusal: ys, the cells that were tested, and zs, those that are left, are the lent xs
 refused : (xs ys zs : List ℤ) (refusal : Refusal) {k : BlockVerdict} → k ≡ testedSamples ys → k ≡ BlockRefused refusal → ys ≡ xs → zs ≡ xs → Promised xs zs (Refused refusal)

@@ -1,26 +1,22 @@
--- `join` is right because lines v and n + v of a pair are a(v) plus the rounded quotient of the same sum, once with its sign changed.
-use borrow.Author.Needs.{sfits-of}
-use mathlib.Core.Path.{_≡_, refl, sym, _∙_, ap, ap₂}
-use mathlib.Core.List.{[], _∷_}
+-- `join` is right because lines v and n + v of a pair are a(v) plus and minus the rounded quotient of the same sum.
+use mathlib.Core.Path.{_≡_, sym, _∙_, ap, ap₂}
 use Prim.Native.Nat.{ℕ, _+_, _*_, _-_, _%_, _≤_, _<_, _^_}
 use native.Mathlib.Nat.{zero-mul, not-suc-le-zero}
 use native.Mathlib.Omega.{arith}
-use lib.IntN.{ℤ, pos, negℤ, natAbs, _+ℤ_, _-ℤ_, _*ℤ_}
+use lib.IntN.{ℤ, pos, natAbs, _+ℤ_, _-ℤ_}
 use lib.ListN.{length, length-set}
-use lib.Signed.{mag}
 use mir.Facts.{toZ-ofZ}
 use mir.Syntax.{w64}
-use mir.Val.{toZ, ofZ}
+use mir.Val.{SFits, toZ, ofZ}
 use denote.Ref.{now}
-use Rattle.ints.proofs.Ring.{ring, quotes}
-use Rattle.ints.proofs.Abs.{abs-minus}
+use Rattle.ints.proofs.Abs.{abs-plus, abs-minus}
 use Rattle.ints.proofs.Fit.{fits, reads-back}
 use Rattle.ints.proofs.Filling.{Filled, filled-all}
 use Rattle.kind.specs.BlockKinds.{SCALE, SCALE-DIGITS}
 use Rattle.ints.specs.Cells.{cell}
 use Rattle.spectrum.specs.Spectrum.{joinedAt}
 use Rattle.spectrum.specs.Levels.{level}
-use Rattle.spectrum.specs.Limits.{LARGEST-CELL, LARGEST-SUM}
+use Rattle.spectrum.specs.Limits.{LARGEST-CELL, LARGEST-SUM, LARGEST-QUOTIENT}
 use Rattle.ints.specs.Quotient.{rounded}
 use Rattle.hartley.proofs.Halves.{Places, places, mirror-start, mirror-next, cosines-many, sines-many, cosine-small, sine-small, line-in-first-half, line-in-second-half, SecondFilled, written-first, written-second, both-halves}
 use Rattle.hartley.proofs.join.Statement.{statement}
@@ -34,14 +30,6 @@ Inv-loop pair cells₀ cosines sines n stride v₀ mirror₀ entry₀ cells v mi
 abbrev μ-loop : tie.MeasureT-loop
 μ-loop pair cells₀ cosines sines n stride v₀ mirror₀ entry₀ cells v mirror entry = n - v
 
--- ---- the round to which a point of the loop's body belongs: after the first line, after the second
-
-abbrev of-first : tie.After-plus-quotient Inv-loop μ-loop → tie.In-loop Inv-loop μ-loop
-of-first c = c .before .before .before
-
-abbrev of-second : tie.After-plus-quotient2 Inv-loop μ-loop → tie.In-loop Inv-loop μ-loop
-of-second c = of-first (c .before)
-
 -- ---- what the machine reads back
 
 abbrev back : ℤ → ℤ
@@ -50,35 +38,49 @@ back z = toZ w64 (ofZ w64 z)
 read-small : (z : ℤ) (b : ℕ) → b < 2 ^ 63 → natAbs z ≤ b → natAbs (back z) ≤ b
 read-small z b k h = rw (reads-back z b k h) h
 
-minus-small : (z : ℤ) → natAbs z ≤ LARGEST-SUM → natAbs (pos 0 -ℤ back z) ≤ LARGEST-SUM
-minus-small z h = omega (arith, abs-minus (pos 0) (back z), read-small z LARGEST-SUM (omega arith) h)
+-- a plus and minus q, which is the quotient of z: both fit and are read back
+record Lines (a z q : ℤ) : Type 0 where
+  sum-fits : SFits w64 (back a +ℤ back q)
+  difference-fits : SFits w64 (back a -ℤ back q)
+  sum-read : back (back a +ℤ back q) ≡ a +ℤ rounded SCALE z
+  difference-read : back (back a -ℤ back q) ≡ a -ℤ rounded SCALE z
 
-minus-is : (z : ℤ) → natAbs z ≤ LARGEST-SUM → pos 0 -ℤ back z ≡ negℤ z
-minus-is z h = rw (reads-back z LARGEST-SUM (omega arith) h) (ring (z ∷ []) (search quotes) tt)
+lines : (a z q : ℤ) → natAbs a ≤ LARGEST-CELL → natAbs z ≤ LARGEST-SUM → q ≡ rounded SCALE (back z) → natAbs q ≤ LARGEST-QUOTIENT → Lines a z q
+lines a z q ha hz e hq = record {
+  sum-fits = rw (read-a, read-q) plus;
+  difference-fits = rw (read-a, read-q) less;
+  sum-read = ap back (ap₂ _+ℤ_ read-a read-q) ∙ toZ-ofZ plus ∙ ap (λ (y : ℤ). a +ℤ y) same;
+  difference-read = ap back (ap₂ _-ℤ_ read-a read-q) ∙ toZ-ofZ less ∙ ap (λ (y : ℤ). a -ℤ y) same;
+}
+  where
+    read-a : back a ≡ a
+    read-a = reads-back a LARGEST-CELL (omega arith) ha
 
--- q, which `plus_quotient` gives of a and of y, which is z, is written
-line-read : (q a y z : ℤ) → mag q < 2 ^ 63 → q ≡ back a +ℤ rounded SCALE (back y) → natAbs a ≤ LARGEST-CELL → natAbs y ≤ LARGEST-SUM → y ≡ z → back q ≡ a +ℤ rounded SCALE z
-line-read q a y z f e ha hy k = toZ-ofZ (sfits-of f) ∙ e
-    ∙ ap₂ (λ (a y : ℤ). a +ℤ rounded SCALE y) (reads-back a LARGEST-CELL (omega arith) ha) (reads-back y LARGEST-SUM (omega arith) hy ∙ k)
+    read-q : back q ≡ q
+    read-q = reads-back q LARGEST-QUOTIENT (omega arith) hq
+
+    same : q ≡ rounded SCALE z
+    same = e ∙ ap (rounded SCALE) (reads-back z LARGEST-SUM (omega arith) hz)
+
+    plus : SFits w64 (a +ℤ q)
+    plus = fits (a +ℤ q) (omega (arith, abs-plus a q))
+
+    less : SFits w64 (a -ℤ q)
+    less = fits (a -ℤ q) (omega (arith, abs-minus a q))
 
 -- ---- line v: its places, and the two lines
 
 here : (c : tie.In-loop Inv-loop μ-loop) → let s = c .before .before .args in let l = c .before .loop in Places (s .n) (s .stride) (l .v) (l .mirror) (l .entry)
 here c = let l = c .before .loop in places (c .before .before .pre .0) (l .v) (l .mirror) (l .entry) (c .loop-test .taken) (l .inv .1) (l .inv .2)
 
-first-read : (c : tie.After-plus-quotient Inv-loop μ-loop) → let i = of-first c in let s = i .before .before .args in
-    back (c .plus-quotient .result) ≡ joinedAt SCALE-DIGITS (s .n) (cell (now (s .pair))) (i .before .loop .v)
-first-read c = let i = of-first c in let l = i .before .loop in let q = i .before .before .pre in
-    let r = c .before .before .sum-of-products in let z = r .result in let x = cell (now (i .before .before .args .pair)) in
-    line-read (c .plus-quotient .result) (x (l .v)) z z (c .plus-quotient .ok) (c .plus-quotient .ensures) (q .1 .size (l .v)) (r .ensures .1) refl
-    ∙ sym (line-in-first-half (q .0) x (l .v) (l .mirror) (l .entry) (here i) (l .inv .1) (l .inv .2) z (r .ensures .0))
+-- the round to which the quotient belongs
+abbrev of-quotient : tie.After-quotient Inv-loop μ-loop → tie.In-loop Inv-loop μ-loop
+of-quotient c = c .before .before .before
 
-second-read : (c : tie.After-plus-quotient2 Inv-loop μ-loop) → let i = of-second c in let s = i .before .before .args in
-    back (c .plus-quotient2 .result) ≡ joinedAt SCALE-DIGITS (s .n) (cell (now (s .pair))) (s .n + i .before .loop .v)
-second-read c = let i = of-second c in let l = i .before .loop in let q = i .before .before .pre in
-    let r = c .before .before .before .sum-of-products in let z = r .result in let h = r .ensures .1 in let x = cell (now (i .before .before .args .pair)) in
-    line-read (c .plus-quotient2 .result) (x (l .v)) (pos 0 -ℤ back z) (negℤ z) (c .plus-quotient2 .ok) (c .plus-quotient2 .ensures) (q .1 .size (l .v)) (minus-small z h) (minus-is z h)
-    ∙ sym (line-in-second-half (q .0) x (l .v) (l .mirror) (l .entry) (here i) (l .inv .1) (l .inv .2) z (r .ensures .0))
+both : (c : tie.After-quotient Inv-loop μ-loop) → let i = of-quotient c in
+    Lines (cell (now (i .before .before .args .pair)) (i .before .loop .v)) (c .before .before .sum-of-products .result) (c .quotient .result)
+both c = let i = of-quotient c in lines _ _ _ (i .before .before .pre .1 .size (i .before .loop .v)) (c .before .before .sum-of-products .ensures .1)
+    (c .quotient .ensures .0) (c .quotient .ensures .1)
 
 -- the entry after that of line v
 next-entry : (v stride entry next : ℕ) → entry ≡ v * stride → next ≡ entry + stride → next ≡ (v + 1) * stride
@@ -104,30 +106,26 @@ mul-first c = omega arith
 shared-slice-copy-out-first : tie.Need-shared-slice-copy-out-first Inv-loop μ-loop
 shared-slice-copy-out-first c = omega arith
 
-plus-quotient-requires : tie.Need-plus-quotient-requires Inv-loop μ-loop
-plus-quotient-requires c κs = let i = c .before .before in let s = i .before .before in let z = c .before .sum-of-products in
-    (read-small (cell (now (s .args .pair)) (i .before .loop .v)) LARGEST-CELL (omega arith) (s .pre .1 .size (i .before .loop .v)), read-small (z .result) LARGEST-SUM (omega arith) (z .ensures .1))
+quotient-requires : tie.Need-quotient-requires Inv-loop μ-loop
+quotient-requires c κs = let z = c .before .sum-of-products in read-small (z .result) LARGEST-SUM (omega arith) (z .ensures .1)
+
+add-cells : tie.Need-add-cells Inv-loop μ-loop
+add-cells c = (both c) .sum-fits
 
 mul-cells : tie.Need-mul-cells Inv-loop μ-loop
 mul-cells c = omega arith
 
 slice-set-from-cells : tie.Need-slice-set-from-cells Inv-loop μ-loop
-slice-set-from-cells c = omega (arith, (of-first c) .before .loop .inv .3)
+slice-set-from-cells c = omega (arith, (of-quotient c) .before .loop .inv .3)
 
-sub-plus-quotient : tie.Need-sub-plus-quotient Inv-loop μ-loop
-sub-plus-quotient c = let z = c .before .before .sum-of-products in fits (pos 0 -ℤ back (z .result)) (omega (arith, minus-small (z .result) (z .ensures .1)))
+sub-cells : tie.Need-sub-cells Inv-loop μ-loop
+sub-cells c = (both c) .difference-fits
 
-plus-quotient-requires-2 : tie.Need-plus-quotient-requires-2 Inv-loop μ-loop
-plus-quotient-requires-2 c κs = let i = of-first c in let s = i .before .before in let z = c .before .before .sum-of-products in (
-  read-small (cell (now (s .args .pair)) (i .before .loop .v)) LARGEST-CELL (omega arith) (s .pre .1 .size (i .before .loop .v)),
-  read-small (pos 0 -ℤ back (z .result)) LARGEST-SUM (omega arith) (minus-small (z .result) (z .ensures .1)),
-)
-
-mul-t14 : tie.Need-mul-t14 Inv-loop μ-loop
-mul-t14 c = omega arith
+mul-t15 : tie.Need-mul-t15 Inv-loop μ-loop
+mul-t15 c = omega arith
 
 slice-set-from-cells-2 : tie.Need-slice-set-from-cells-2 Inv-loop μ-loop
-slice-set-from-cells-2 c = rw length-set (omega (arith, (of-second c) .before .loop .inv .3))
+slice-set-from-cells-2 c = rw length-set (omega (arith, (of-quotient c) .before .loop .inv .3))
 
 add-v : tie.Need-add-v Inv-loop μ-loop
 add-v c = omega arith
@@ -136,20 +134,23 @@ sub-mirror : tie.Need-sub-mirror Inv-loop μ-loop
 sub-mirror c = omega arith
 
 add-entry : tie.Need-add-entry Inv-loop μ-loop
-add-entry c = let p = here (of-second c) in omega (arith, cosines-many ((of-second c) .before .before .pre .0))
+add-entry c = let p = here (of-quotient c) in omega (arith, cosines-many ((of-quotient c) .before .before .pre .0))
 
 loop-less : tie.Need-loop-less Inv-loop μ-loop
 loop-less c = omega arith
 
 loop-again : tie.Need-loop-again Inv-loop μ-loop
-loop-again c = let i = of-second c in let s = i .before .before .args in let l = i .before .loop in let p = here i in let f = joinedAt SCALE-DIGITS (s .n) (cell (now (s .pair))) in (
-  omega arith,
-  mirror-next _ _ _ (omega arith) (omega arith) (omega arith),
-  next-entry (l .v) (s .stride) (l .entry) _ (l .inv .2) (omega arith),
-  simp length-set (l .inv .3),
-  written-first f (s .n) (l .v) (l .cells) _ _ (p .below) (l .inv .3) (first-read (c .before)) (l .inv .4),
-  written-second f (s .n) (l .v) (l .cells) _ _ (p .below) (l .inv .3) (second-read c) (l .inv .5),
-)
+loop-again c = let i = of-quotient c in let s = i .before .before .args in let l = i .before .loop in let p = here i in let x = cell (now (s .pair)) in let f = joinedAt SCALE-DIGITS (s .n) x in
+    let J = i .before .before .pre .0 in let z = c .before .before .sum-of-products in (
+      omega arith,
+      mirror-next _ _ _ (omega arith) (omega arith) (omega arith),
+      next-entry (l .v) (s .stride) (l .entry) _ (l .inv .2) (omega arith),
+      simp length-set (l .inv .3),
+      written-first f (s .n) (l .v) (l .cells) _ _ (p .below) (l .inv .3)
+          ((both c) .sum-read ∙ sym (line-in-first-half J x (l .v) (l .mirror) (l .entry) p (l .inv .1) (l .inv .2) (z .result) (z .ensures .0))) (l .inv .4),
+      written-second f (s .n) (l .v) (l .cells) _ _ (p .below) (l .inv .3)
+          ((both c) .difference-read ∙ sym (line-in-second-half J x (l .v) (l .mirror) (l .entry) p (l .inv .1) (l .inv .2) (z .result) (z .ensures .0))) (l .inv .5),
+    )
 
 same-length : tie.Need-same-length Inv-loop μ-loop
 same-length c = c .before .loop .inv .3 ∙ sym (c .before .before .pre .3)
@@ -171,12 +172,12 @@ join-spec =
     sum-of-products-requires
     mul-first
     shared-slice-copy-out-first
-    plus-quotient-requires
+    quotient-requires
+    add-cells
     mul-cells
     slice-set-from-cells
-    sub-plus-quotient
-    plus-quotient-requires-2
-    mul-t14
+    sub-cells
+    mul-t15
     slice-set-from-cells-2
     add-v
     sub-mirror

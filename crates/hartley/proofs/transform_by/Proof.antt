@@ -2,6 +2,7 @@
 use borrow.Author.Needs.{needs}
 use mathlib.Core.Path.{sym, _∙_, ap}
 use Prim.Native.Nat.{_≤_}
+use native.Mathlib.Omega.{arith}
 use lib.ListN.{length}
 use lib.Pow.{pow-mono}
 use lib.Seq.{length-take-le}
@@ -44,7 +45,7 @@ run-levels-requires c κs = let m = permuted-at c in let e = m .permute .ensures
     as-long = t .long;
     at-cosines = s .pre .1;
     at-sines = s .pre .2;
-    quiet = λ L h. record { size = λ i. rw e (forward-room L p h (t .most) xs (t .quiet) i) };
+    quiet = λ L h. record { size = λ i. rw e (forward-room L p (omega arith) (t .most) xs (t .quiet) i) };
   },
 )
 

@@ -49,7 +49,7 @@ same-length-2 c = kept (c .before .before .before .before .before .before)
 
 returns : tie.Need-returns
 returns c = let f = c .before .before .before .before .before .before in let e = f .backward .ensures in let a = c .before .before .answered .ensures in
-    answered-in-place LEAST-LINE LARGEST-LINE (lent f) (room f) (start f .pre) _ (read f) (e .0) backwardLeft _ _ _ (e .1 .1) (a .0) (a .1)
+    answered-in-place LEAST-LINE LARGEST-LINE (lent f) (room f) (start f .pre) _ (read f) (e .0) backwardLeft _ _ _ (e .1 .1 .0) (a .0) (a .1)
 
 pub backward-in-spec : {M : Type 1} → statement M
 backward-in-spec = tie.close (tie.spec decode-requires backward-requires answered-requires same-length same-length-2 returns)

@@ -1,9 +1,10 @@
--- `hartley_backward` is right because `backward_in` is, given room for all cells that can be taken.
+-- `hartley_backward` is right because `backward_in` is, given room for all cells that can be taken; what it says of the negative is a law of what it leaves.
 use borrow.Author.Needs.{needs}
 use mathlib.Core.Path.{sym, _∙_}
 use native.Mathlib.Omega.{arith}
 use lib.Seq.{length-take-le}
 use Rattle.host.proofs.Calls.{told-so}
+use Rattle.host.proofs.BackwardBytes.{bytes-negative}
 use Rattle.host.proofs.hartley_backward.Statement.{statement}
 use Rattle.host.proofs.hartley_backward.Tie as tie
 
@@ -27,7 +28,7 @@ same-length c = c .before .before .before .backward-in .kept .0
 
 returns : tie.Need-returns
 returns c = let a = c .before .before .before .backward-in .ensures in
-    (a .says, (told-so a, a .leaves))
+    (a .says, (told-so a, (a .leaves, bytes-negative _ a)))
 
 pub hartley-backward-spec : {M : Type 1} → statement M
 hartley-backward-spec =

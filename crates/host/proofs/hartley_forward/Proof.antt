@@ -4,7 +4,7 @@ use mathlib.Core.Path.{sym, _∙_}
 use native.Mathlib.Omega.{arith}
 use lib.Seq.{length-take-le}
 use Rattle.host.proofs.Calls.{told-so}
-use Rattle.host.proofs.ForwardBytes.{bytes-first-exact, bytes-near}
+use Rattle.host.proofs.ForwardBytes.{bytes-first-exact, bytes-near, bytes-negative}
 use Rattle.host.proofs.hartley_forward.Statement.{statement}
 use Rattle.host.proofs.hartley_forward.Tie as tie
 
@@ -28,7 +28,7 @@ same-length c = c .before .before .before .forward-in .kept .0
 
 returns : tie.Need-returns
 returns c = let a = c .before .before .before .forward-in .ensures in
-    (a .says, (told-so a, (a .leaves, (bytes-near _ a, bytes-first-exact _ a))))
+    (a .says, (told-so a, (a .leaves, (bytes-near _ a, (bytes-first-exact _ a, bytes-negative _ a)))))
 
 pub hartley-forward-spec : {M : Type 1} → statement M
 hartley-forward-spec =
