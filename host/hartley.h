@@ -41,10 +41,12 @@ enum hartley_refusal {
     HARTLEY_HEAD = 15    /* rate 0 or P outside 1 to 10; same place */
 };
 
-/* The forward spectrum of a block of N samples, in place of the samples. Answers 0, or a refusal: 1 or 3. */
+/* The forward spectrum of a block of N samples, in place of the samples. Answers 0, or a refusal: 1 or 3. The negative of a
+   block has the negative spectrum, line by line, where it is not refused: -32,768 has no negative that is taken. */
 uint64_t hartley_forward(uint8_t *cells, size_t cells_bytes);
 
-/* The block of a spectrum, in place of the spectrum. Answers 0, or a refusal: 1 or 3. */
+/* The block of a spectrum, in place of the spectrum. Answers 0, or a refusal: 1 or 3. The negative of a spectrum gets the same
+   answer and the negative block. */
 uint64_t hartley_backward(uint8_t *cells, size_t cells_bytes);
 
 /* The doubled powers of lines 0 to N/2 of a spectrum of N cells. Answers 0, or a refusal: 1, 2 or 3. */
