@@ -11,7 +11,7 @@ use Rattle.block.specs.Tests.{testedSpectrum}
 use Rattle.block.specs.BlockAnswers.{cellsLeft}
 use Rattle.block.proofs.Taken.{spectrum-accepted}
 use Rattle.spectrum.specs.Spectrum.{backward}
-use Rattle.spectrum.proofs.ForwardDistance.{backward-room}
+use Rattle.spectrum.proofs.Loudness.{backward-room}
 use Rattle.hartley.specs.Promises.{NegativeBlock, backwardLeft}
 use Rattle.hartley.proofs.BackwardLeft.{negative-block}
 use Rattle.host.specs.CellBytes.{bytesLeft, cellsIn}

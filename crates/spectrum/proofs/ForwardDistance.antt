@@ -2,26 +2,24 @@
 -- The proof goes in six steps, one file each: the even/odd law of the levels (EvenOdd), the same split of the direct sum (DirectSplit), the
 -- identity for one line and its bounds (Step), one level (OneLevel), the induction over the levels (Distance), and the figures here.
 -- Example: `demand-3 10 few xs long quiet : WithinE 10 xs (forward 10 xs)`.
-use mathlib.Core.Path.{_≡_, sym, _∙_, ap}
-use mathlib.Core.List.{List, map}
+use mathlib.Core.Path.{_≡_}
+use mathlib.Core.List.{List}
 use Prim.Native.Nat.{ℕ, _+_, _*_, _^_, _≤_, _<_}
 use native.Mathlib.Nat.{le-trans}
 use native.Mathlib.Omega.{arith}
 use lib.Dec.{T, eqb, leb, eqb→eq, leb→le}
 use lib.IntN.{ℤ, pos, natAbs, _-ℤ_, _*ℤ_}
-use lib.ListN.{length, getD, List·getD-map}
-use lib.Pow.{pow-pos}
+use lib.ListN.{length}
 use Rattle.ints.specs.Quotient.{rounded}
 use Rattle.ints.specs.Sum.{sum}
 use Rattle.ints.specs.Tabulate.{tabulate}
-use Rattle.ints.proofs.Rounding.{rounded-size, rounded-zero}
 use Rattle.ints.proofs.Tables.{alongside, alongside-at}
 use Rattle.kind.specs.BlockKinds.{SCALE, SCALE-DIGITS}
 use Rattle.cosine.specs.Cosine.{fine}
 use Rattle.ints.specs.Cells.{cell}
 use Rattle.kind.specs.Loudness.{LOUDEST-SAMPLE, LOUDEST-LINE}
-use Rattle.spectrum.specs.Levels.{permuted, transformed}
-use Rattle.spectrum.specs.Spectrum.{tableCosine, tableSine, levelsAt, forwardAt, forward, backward}
+use Rattle.spectrum.specs.Levels.{permuted}
+use Rattle.spectrum.specs.Spectrum.{tableCosine, tableSine, levelsAt, forwardAt, forward}
 use Rattle.spectrum.specs.Limits.{LARGEST-CELL}
 use Rattle.spectrum.specs.Distance.{bound, directSum, E, WithinE}
 use Rattle.spectrum.proofs.Nearest.{LARGEST-M, Nearest, nearest-at}
@@ -69,11 +67,3 @@ pub forward-room : (L P : ℕ) → L ≤ P → P ≤ 10 → (xs : List ℤ) → 
     natAbs (cell (levelsAt SCALE-DIGITS L (permuted P xs)) i) ≤ LARGEST-CELL
 forward-room L P h few xs quiet i = le-trans (level-size in-force LOUDEST-LINE (omega arith) L P h few xs quiet i)
     (leb→le _ _ (alongside-at leb (λ L. 2 * (2 ^ L * LOUDEST-LINE) + 2 * bound SCALE LOUDEST-LINE L) (λ L. LARGEST-CELL) 11 11 rooms L (omega arith)))
-
--- and no cell that backward leaves
-pub backward-room : (P : ℕ) → P ≤ 10 → (xs : List ℤ) → ((t : ℕ) → natAbs (cell xs t) ≤ LOUDEST-LINE) → (i : ℕ) → natAbs (cell (backward P xs) i) ≤ LARGEST-CELL
-unfolding backward forward forwardAt transformed
-backward-room P few xs quiet i = rw divided (le-trans (rounded-size (2 ^ P) (pow-pos P) (cell (forward P xs) i)) (forward-room P P (omega arith) few xs quiet i))
-  where
-    divided : cell (map (rounded (2 ^ P)) (forward P xs)) i ≡ rounded (2 ^ P) (cell (forward P xs) i)
-    divided = ap (getD (map (rounded (2 ^ P)) (forward P xs)) i) (sym (rounded-zero (2 ^ P) (pow-pos P))) ∙ List·getD-map (rounded (2 ^ P)) (forward P xs) i (pos 0)

@@ -16,8 +16,8 @@ pub const SHAPES: [&str; 15] = [
 ];
 
 /// A cosine and a sine of 23,170, an eighth of a turn on, make a half of an odd multiple of 8,192 (document 01 works
-/// 8,192 × 23,170 by hand). A cell of an odd multiple of 4,096 brings it to level 3 twice; so do two cells of odd
-/// multiples of 2,048 whose sum is such.
+/// 8,192 × 23,170 by hand). A cell of an odd multiple of 4,096 brings it to level 3 twice. So do two cells half a block
+/// apart whose difference is such, to level 3, or whose sum is such, to level 4.
 const UNIT: i64 = 4096;
 
 /// A block of n cells of the named shape, each from low to high.
@@ -28,7 +28,8 @@ pub fn shaped(shape: &str, n: usize, (low, high): (i64, i64), random: &mut Rando
     let step = random.between(-high / 64, high / 64);
     let (more, less) = random.pick(&[(high, low), (low, high)]);
     let unit = odd_multiple(UNIT, high, random);
-    let (part, partner) = (odd_multiple(UNIT / 2, high / 4, random), random.below(n.max(1)));
+    let part = odd_multiple(UNIT / 2, high / 4, random);
+    let partner = random.pick(&[UNIT - part, part - UNIT]);
     let mut cells = Vec::new();
     for t in 0..n {
         cells.push(match shape {
@@ -41,7 +42,7 @@ pub fn shaped(shape: &str, n: usize, (low, high): (i64, i64), random: &mut Rando
             "single cell" if t == place => single,
             "unit of halves" if t == place => unit,
             "pair of halves" if t == place => part,
-            "pair of halves" if t == partner => UNIT - part,
+            "pair of halves" if t == (place + n / 2) % n => partner,
             "ramp" => (any + step * t as i64).clamp(low, high),
             "alternating" if t % 2 == 0 => more,
             "alternating" => less,

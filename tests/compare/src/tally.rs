@@ -17,17 +17,24 @@ const NUMBERS: [usize; 9] = [1, 2, 3, 10, 11, 12, 13, 14, 15];
 /// Inputs of a call and a sort: how many were accepted, refused by 1, by 2 and so on.
 type Rows = BTreeMap<(Call, &'static str), [u64; 16]>;
 
+/// Blocks that a call took with their negatives, and the halves that its divisions met, above and below zero.
+#[derive(Default)]
+struct BothSigns {
+    blocks: u64,
+    at_levels: [u64; 2],
+    in_division: [u64; 2],
+}
+
 #[derive(Default)]
 pub struct Tally {
     pub inputs: u64,
     rows: Rows,
     totals: Rows,
-    accepted: BTreeSet<(Call, u32)>,        // each P that each call accepted
-    both_signs: BTreeMap<(Call, u32), u64>, // for each call and P the blocks that it took with their negatives
-    pub only_one_sign: u64,                 // and the blocks that it took without
-    halves: BTreeMap<Call, [[u64; 2]; 2]>,  // the halves, above and below zero, at the levels and then in the division
-    pub measured: [u64; 11],                // for each P the blocks measured
-    pub farthest: [i128; 11],               // and the largest distance, times 2^60
+    accepted: BTreeSet<(Call, u32)>,              // each P that each call accepted
+    both_signs: BTreeMap<(Call, u32), BothSigns>, // the same, of each P
+    pub only_one_sign: u64,                       // the blocks that forward took without their negatives
+    pub measured: [u64; 11],                      // for each P the blocks measured
+    pub farthest: [i128; 11],                     // and the largest distance, times 2^60
 }
 
 impl Tally {
@@ -41,12 +48,14 @@ impl Tally {
         }
     }
 
-    /// Counts a block that was taken with its negative, and the halves that its divisions meet.
-    pub fn count_both(&mut self, call: Call, p: u32, halves: [[u64; 2]; 2]) {
-        *self.both_signs.entry((call, p)).or_default() += 1;
-        let met = self.halves.entry(call).or_default();
-        for (met, halves) in met.iter_mut().flatten().zip(halves.iter().flatten()) {
-            *met += halves;
+    /// Counts a block that was taken with its negative, and the halves that its divisions meet: those of the levels, and
+    /// for backward those after them.
+    pub fn count_both(&mut self, call: Call, p: u32, [at_levels, in_division]: [[u64; 2]; 2]) {
+        let both = self.both_signs.entry((call, p)).or_default();
+        both.blocks += 1;
+        for sign in 0..2 {
+            both.at_levels[sign] += at_levels[sign];
+            both.in_division[sign] += if call == Call::Backward { in_division[sign] } else { 0 };
         }
     }
 
@@ -58,18 +67,13 @@ impl Tally {
             let refused = NUMBERS.map(|number| format!("{:>7}", row[number])).concat();
             println!("{:36}{run:>8}{:>9}{refused}", format!("{call:?}, {sort}"), row[0]);
         }
-        println!(
-            "\n{:20}{:>8}{:>32}{:>32}",
-            "with the negative", "blocks", "halves at the levels", "halves in the division"
-        );
-        for (call, [[above, below], [over, under]]) in &self.halves {
-            let pairs: u64 = self.both_signs.iter().filter(|((its, _), _)| its == call).map(|(_, pairs)| pairs).sum();
-            let levels = format!("{above} above zero, {below} below");
-            let division =
-                if *call == Call::Forward { String::new() } else { format!("{over} above zero, {under} below") };
-            println!("{:20}{pairs:>8}{levels:>32}{division:>32}", format!("{call:?}"));
+        let heads = format!("{:>24}{:>24}", "halves at the levels", "in the division");
+        println!("\n{:14}{:>2}{:>9}{heads}", "with negative", "P", "blocks");
+        for ((call, p), both) in &self.both_signs {
+            let halves = [both.at_levels, both.in_division].map(|[up, down]| format!("{up:>12} and {down:>7}"));
+            println!("{:14}{p:>2}{:>9}{}", format!("{call:?}"), both.blocks, halves.concat());
         }
-        println!("and {} blocks that forward takes without it", self.only_one_sign);
+        println!("and {} blocks that forward takes without the negative", self.only_one_sign);
         println!("\n{:>2}{:>9}{:>18}{:>8}", "P", "blocks", "largest distance", "E(P)");
         for p in 1..=10 {
             let far = (self.farthest[p] * 1000 + (1 << 60) - 1) / (1 << 60); // rounded up
@@ -79,14 +83,15 @@ impl Tally {
     }
 
     /// Ends the program if a call never accepted some P or never gave one of its refusals, if no block of some P was taken
-    /// with its negative, or if a division never met a half.
+    /// with its negative or none without, or if a division never met a half: of a level from P = 3 on, where they begin.
     pub fn must_be_complete(&self) {
-        for call in [Call::Forward, Call::Backward] {
-            let every_p = (1..=10).all(|p| self.both_signs.contains_key(&(call, p)));
-            let [levels, division] = self.halves[&call];
-            let every_half = !levels.contains(&0) && (call == Call::Forward || !division.contains(&0));
-            if !every_p || !every_half || self.only_one_sign == 0 {
-                println!("comparison: {call:?} has not shown every half and every P with its negative");
+        for (call, p) in [Call::Forward, Call::Backward].iter().flat_map(|call| (1..=10).map(move |p| (*call, p))) {
+            let shown = self.both_signs.get(&(call, p)).is_some_and(|both| {
+                let levels = p < 3 || !both.at_levels.contains(&0);
+                levels && (call == Call::Forward || !both.in_division.contains(&0))
+            });
+            if !shown || self.only_one_sign == 0 {
+                println!("comparison: {call:?} has not shown P {p} with its negative and with halves");
                 exit(1);
             }
         }

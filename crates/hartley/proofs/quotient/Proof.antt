@@ -1,5 +1,5 @@
 -- `quotient` is right because it is the rounded quotient by the scale, which lies within half of the sum over the scale.
-use borrow.Author.Needs.{needs, sfits-of}
+use borrow.Author.Needs.{sfits-of}
 use mathlib.Core.Path.{_≡_, _∙_, ap}
 use mathlib.Core.List.{[], _∷_}
 use Prim.Native.Nat.{ℕ, _≤_}

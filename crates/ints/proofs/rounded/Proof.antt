@@ -4,7 +4,7 @@ use borrow.Author.Tests.{ltb-true}
 use mathlib.Core.Path.{_≡_, refl, sym, _∙_, ap}
 use mathlib.Core.Bool.{true, false, true≢false}
 use mathlib.Core.List.{[], _∷_}
-use Prim.Native.Nat.{ℕ, _+_, _-_, _*_, _/_, _^_, _≤_, _<_}
+use Prim.Native.Nat.{ℕ, _+_, _-_, _/_, _^_, _≤_, _<_}
 use native.Mathlib.Nat.{div-le-self}
 use native.Mathlib.Omega.{arith}
 use lib.IntN.{ℤ, pos, negsuc, negℤ, natAbs, _-ℤ_}
@@ -17,7 +17,7 @@ use Rattle.ints.specs.Quotient.{rounded, roundedSize}
 use Rattle.ints.proofs.Ring.{ring, quotes}
 use Rattle.ints.proofs.Powers.{two-pow-pred}
 use Rattle.ints.proofs.Abs.{abs-neg}
-use Rattle.ints.proofs.Fit.{fits, reads-back}
+use Rattle.ints.proofs.Fit.{fits}
 use Rattle.ints.proofs.Rounding.{by-half, size-by-halves, rounded-by-one, rounded-small}
 use Rattle.ints.proofs.rounded.Statement.{statement}
 use Rattle.ints.proofs.rounded.Tie as tie
