@@ -13,10 +13,13 @@ use lib.IntN.{ℤ, pos, negsuc, natAbs}
 use lib.ListN.{length, getD, take, drop}
 use Rattle.ints.proofs.Slices.{length-part}
 use Rattle.kind.specs.declared.BlockKind.{BlockKind}
+use Rattle.block.specs.declared.BlockVerdict.{BlockVerdict}
 use Rattle.block.specs.declared.BlockVerdict.the-variants.{Taken, Refused}
 use Rattle.refusal.specs.declared.Refusal.the-variants.{Length, Misfit}
 use Rattle.kind.specs.BlockKinds.{LARGEST}
 use Rattle.kind.proofs.Lengths.{Kind-length, kind-given}
+use Rattle.ints.specs.Cells.{cell}
+use Rattle.block.specs.BlockAnswers.{cellsLeft}
 use Rattle.block.specs.Tests.{misfit, tested}
 use Rattle.block.proofs.Taken.{taken-kind, taken-fits, output-fits}
 use Rattle.block.proofs.Refused.{kind-least, kind-largest, tested-length, tested-outputs}
@@ -24,7 +27,7 @@ use Rattle.little_endian.specs.Reading.{Within, signeds}
 use Rattle.little_endian.specs.Spelling.{spelledSigneds}
 use Rattle.little_endian.proofs.Signed.{length-signeds, length-spelled-signeds, signeds-spelled}
 use Rattle.spectrum.specs.Limits.{LARGEST-CELL}
-use Rattle.host.specs.CellBytes.{CELL, cellsIn}
+use Rattle.host.specs.CellBytes.{CELL, bytesLeft, cellsIn}
 use Rattle.host.specs.Inner.{cellCount}
 
 -- ---- how many cells are read
@@ -140,13 +143,19 @@ module _ (low high : ℤ) (bytes : List ℕ) (xs : List ℤ) where
 -- ---- bytes that were written spell the cells that they were written for
 
 -- eight bytes hold every cell that a call leaves
-pub cell-within : (z : ℤ) → natAbs z ≤ LARGEST-CELL → Within (256 ^ CELL) z
+cell-within : (z : ℤ) → natAbs z ≤ LARGEST-CELL → Within (256 ^ CELL) z
 cell-within (pos x) h = omega arith
 cell-within (negsuc x) h = omega arith
 
-pub cells-back : (xs : List ℤ) → ((i : ℕ) → i < length xs → Within (256 ^ CELL) (getD xs i (pos 0))) → cellsIn (spelledSigneds CELL xs) ≡ xs
+cells-back : (xs : List ℤ) → ((i : ℕ) → i < length xs → Within (256 ^ CELL) (getD xs i (pos 0))) → cellsIn (spelledSigneds CELL xs) ≡ xs
 cells-back xs h = let n = length xs in let bytes = spelledSigneds CELL xs in let e : length bytes ≡ CELL * n = length-spelled-signeds CELL xs in
     whole-cells bytes (omega arith) ∙ ap (λ (m : ℕ). signeds CELL m bytes) (count n (length bytes) e) ∙ signeds-spelled CELL xs h
   where
     count : (n m : ℕ) → m ≡ CELL * n → m / CELL ≡ n
     count n m e = omega arith
+
+-- the bytes that a call on a block leaves spell the cells that it leaves; k is what the tests of the lent cells find
+pub left-spelled : (result : ℕ → List ℤ) (bytes : List ℕ) (k : BlockVerdict) → ((kind : BlockKind) → k ≡ Taken kind → (i : ℕ) → natAbs (cell (result (kind .p)) i) ≤ LARGEST-CELL)
+    → let left = cellsLeft result (cellsIn bytes) k in cellsIn (bytesLeft k left bytes) ≡ left
+left-spelled result bytes (Taken kind) small = cells-back (result (kind .p)) (λ i h. cell-within (cell (result (kind .p)) i) (small kind refl i))
+left-spelled result bytes (Refused refusal) small = refl

@@ -12,7 +12,7 @@ use lib.Signed.{shrZ}
 use Rattle.ints.specs.Quotient.{rounded, roundedSize}
 use Rattle.ints.proofs.Ring.{ring, quotes, sub-zero}
 use Rattle.ints.proofs.Order.{eq-goal}
-use Rattle.ints.proofs.Abs.{abs-fact, abs-neg, abs-times, abs-zero}
+use Rattle.ints.proofs.Abs.{abs-fact, abs-minus, abs-neg, abs-times, abs-zero}
 
 -- half of 2 h is h
 pub by-half : (h n : ℕ) → roundedSize (2 * h) n ≡ (n + h) / (2 * h)
@@ -65,6 +65,48 @@ rounded-half h z k = ap pos (by-half h (2 * h * k + h) ∙ div-eq-of-eq-mul-righ
   where
     up : 2 * h * k + h + h ≡ 2 * h * suc k
     up = omega arith
+
+-- ---- and no other rounding is near and odd and sends the halves above zero up
+
+module _ (h : ℕ) (some : zero < h) (R : ℤ → ℤ) (near : (x : ℤ) → natAbs (pos (2 * h) *ℤ R x -ℤ x) ≤ h) (odd : (x : ℤ) → R (negℤ x) ≡ negℤ (R x)) (half : (k : ℕ) → R (pos (2 * h * k + h)) ≡ pos (suc k)) where
+  -- a is h off at most and b less, so that less than 2 h lies between their multiples
+  closer : (a b x : ℤ) → natAbs (pos (2 * h) *ℤ a -ℤ x) ≤ h → natAbs (pos (2 * h) *ℤ b -ℤ x) < h → a ≡ b
+  closer a b x p q = sub-zero a b (abs-zero (a -ℤ b) (go (natAbs (a -ℤ b)) (abs-times (a -ℤ b) (pos (2 * h)))))
+    where
+      apart : (a -ℤ b) *ℤ pos (2 * h) ≡ pos (2 * h) *ℤ a -ℤ x -ℤ (pos (2 * h) *ℤ b -ℤ x)
+      apart = ring (a ∷ b ∷ x ∷ pos h ∷ []) (search quotes depth 60) tt
+
+      less : natAbs ((a -ℤ b) *ℤ pos (2 * h)) < 2 * h
+      less = rw apart (omega (arith, abs-minus (pos (2 * h) *ℤ a -ℤ x) (pos (2 * h) *ℤ b -ℤ x)))
+
+      never : (k : ℕ) → natAbs ((a -ℤ b) *ℤ pos (2 * h)) ≡ suc k * (2 * h) → ⊥
+      never k e = omega (arith, less)
+
+      go : (k : ℕ) → natAbs ((a -ℤ b) *ℤ pos (2 * h)) ≡ k * (2 * h) → k ≤ 0
+      go zero e = omega arith
+      go (suc k) e = absurd (never k e)
+
+  above : (n : ℕ) → R (pos n) ≡ pos ((n + h) / (2 * h))
+  above n = go ((n + h) / (2 * h)) ((n + h) % (2 * h)) (mod-lt (n + h) (omega arith)) (div-add-mod (n + h) (2 * h))
+    where
+      never : 2 * h * 0 + 0 ≡ n + h → ⊥
+      never e = omega arith
+
+      down : (k : ℕ) → 2 * h * suc k + 0 ≡ n + h → n ≡ 2 * h * k + h
+      down k e = omega arith
+
+      off : (q r : ℕ) → suc r < 2 * h → 2 * h * q + suc r ≡ n + h → natAbs (pos (2 * h) *ℤ pos q -ℤ pos n) < h
+      off q r l e = let Γ = pos h ∷ pos q ∷ pos n ∷ [] in omega (arith, abs-fact Γ (pos (2 * h) *ℤ pos q -ℤ pos n) (search quotes depth 40))
+
+      go : (q r : ℕ) → r < 2 * h → 2 * h * q + r ≡ n + h → R (pos n) ≡ pos q
+      go zero zero l e = absurd (never e)
+      go (suc k) zero l e = ap (λ (m : ℕ). R (pos m)) (down k e) ∙ half k
+      go q (suc r) l e = closer (R (pos n)) (pos q) (pos n) (near (pos n)) (off q r l e)
+
+  pub no-other : (x : ℤ) → R x ≡ rounded (2 * h) x
+  unfolding rounded
+  no-other (pos n) = above n ∙ sym (ap pos (by-half h n))
+  no-other (negsuc n) = odd (pos (suc n)) ∙ ap negℤ (above (suc n) ∙ sym (ap pos (by-half h (suc n))))
 
 -- ---- a rounding that is near is exact at the multiples
 

@@ -43,7 +43,7 @@ impl Comparison {
 
     /// Forward, backward or power of a block; only power uses the output. Gives the answer, and what then stands in the
     /// bytes lent for the result.
-    pub fn block(&mut self, call: Call, sort: &'static str, cells: &[u8], output: &[u8]) -> (u64, Vec<u8>) {
+    fn block(&mut self, call: Call, sort: &'static str, cells: &[u8], output: &[u8]) -> (u64, Vec<u8>) {
         let mut lent = Lent::new(cells, &mut self.random);
         let mut lent_output = Lent::new(output, &mut self.random);
         let answer = match call {
@@ -83,8 +83,8 @@ impl Comparison {
     }
 
     /// A block as above and its negative, by forward or backward. Where both are taken, what is left of the one is the
-    /// negative of what is left of the other; and backward answers both alike.
-    pub fn both_signs(&mut self, call: Call, sort: &'static str, cells: &[u8]) -> Vec<u8> {
+    /// negative of what is left of the other; and backward answers both alike. Gives the block's answer and result.
+    fn both_signs(&mut self, call: Call, sort: &'static str, cells: &[u8]) -> (u64, Vec<u8>) {
         let (answer, left) = self.block(call, sort, cells, &[]);
         let negative = negated(cells);
         let (its_answer, its_left) = self.block(call, sort, &negative, &[]);
@@ -100,7 +100,15 @@ impl Comparison {
         } else if answer == 0 {
             self.tally.only_one_sign += 1;
         }
-        left
+        (answer, left)
+    }
+
+    /// One input of a call on a block; forward and backward take it with its negative.
+    pub fn signed_block(&mut self, call: Call, sort: &'static str, cells: &[u8], output: &[u8]) -> (u64, Vec<u8>) {
+        match call {
+            Call::Power => self.block(call, sort, cells, output),
+            _ => self.both_signs(call, sort, cells),
+        }
     }
 
     /// The check of a trace. Gives the answer.

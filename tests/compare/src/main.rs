@@ -47,7 +47,7 @@ fn main() {
             lengths(&mut c, call);
             for _ in 0..SEVERAL {
                 let (cells, output) = several_faults(limits_of(call), &mut c.random);
-                block_call(&mut c, call, "several faults", &cells, &output);
+                c.signed_block(call, "several faults", &cells, &output);
             }
         }
         traces(&mut c);
@@ -64,22 +64,14 @@ fn blocks(c: &mut Comparison, p: usize) {
     for i in 0..BLOCKS[p - 1] {
         let shape = SHAPES[i % SHAPES.len()];
         let samples = shaped(shape, n, SAMPLES, &mut c.random);
-        let lines = c.both_signs(Call::Forward, shape, &bytes_of(&samples));
+        let (_, lines) = c.signed_block(Call::Forward, shape, &bytes_of(&samples), &[]);
         let spectrum = bytes_of(&shaped(shape, n, LINES, &mut c.random));
         for (sort, given) in [("what forward left", lines), ("spectra so shaped", spectrum)] {
-            c.both_signs(Call::Backward, sort, &given);
+            c.signed_block(Call::Backward, sort, &given, &[]);
             let output = c.random.bytes(8 * (n / 2 + 1));
-            c.block(Call::Power, sort, &given, &output);
+            c.signed_block(Call::Power, sort, &given, &output);
         }
     }
-}
-
-/// One input of a call on a block; forward and backward take it with its negative.
-fn block_call(c: &mut Comparison, call: Call, sort: &'static str, cells: &[u8], output: &[u8]) {
-    match call {
-        Call::Power => c.block(call, sort, cells, output).1,
-        _ => c.both_signs(call, sort, cells),
-    };
 }
 
 /// Cells at the limits, which pass, one step outside and far outside, in one place and in several.
@@ -91,13 +83,13 @@ fn limits(c: &mut Comparison, call: Call) {
             for place in [0, n - 1, c.random.below(n)] {
                 let mut cells = shaped("full range", n, (low, high), &mut c.random);
                 cells[place] = value;
-                block_call(c, call, "cell at a limit or outside", &bytes_of(&cells), &output);
+                c.signed_block(call, "cell at a limit or outside", &bytes_of(&cells), &output);
             }
         }
         for _ in 0..10 {
             let mut cells = shaped("full range", n, (low, high), &mut c.random);
             make_loud(&mut cells, (low, high), &mut c.random);
-            block_call(c, call, "cells outside", &bytes_of(&cells), &output);
+            c.signed_block(call, "cells outside", &bytes_of(&cells), &output);
         }
     }
 }
@@ -114,13 +106,13 @@ fn lengths(c: &mut Comparison, call: Call) {
     for count in (0..600).chain([1022, 1023, 1024, 1025, 2047, 2048, 2049, 4096, 65_536]) {
         let cells = shaped("full range", count, limits_of(call), &mut c.random);
         let output = c.random.bytes(8 * (count / 2 + 1));
-        block_call(c, call, "length", &bytes_of(&cells), &output);
+        c.signed_block(call, "length", &bytes_of(&cells), &output);
     }
     for n in LENGTHS {
         let cells = bytes_of(&shaped("up to 100", n + 1, limits_of(call), &mut c.random));
         let output = c.random.bytes(8 * (n / 2 + 1));
         for count in 8 * n - 7..=8 * n + 7 {
-            block_call(c, call, "bytes left over", &cells[..count], &output);
+            c.signed_block(call, "bytes left over", &cells[..count], &output);
         }
     }
 }
@@ -133,7 +125,7 @@ fn outputs(c: &mut Comparison) {
         let cells = (0..=2 * right).step_by(8);
         for count in cells.chain(right - 9..=right + 9).chain([8 * 65_536, 8 * 65_536 + right]) {
             let output = c.random.bytes(count);
-            c.block(Call::Power, "output", &spectrum, &output);
+            c.signed_block(Call::Power, "output", &spectrum, &output);
         }
     }
 }

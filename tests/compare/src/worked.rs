@@ -41,12 +41,12 @@ pub fn samples(c: &mut Comparison) {
     for (count, answer) in [(0, 1), (1, 1), (3, 1), (2048, 1), (1024, 0)] {
         for call in [Call::Forward, Call::Backward, Call::Power] {
             let output = c.random.bytes(8 * (count / 2 + 1));
-            let (given, _) = c.block(call, SORT, &bytes_of(&vec![0; count]), &output);
+            let (given, _) = c.signed_block(call, SORT, &bytes_of(&vec![0; count]), &output);
             assert_eq!(given, answer, "{call:?} of {count} cells");
         }
     }
     for (cells, answer) in [([0, 32_768], refused(3, 1)), ([-32_768, 32_767], 0)] {
-        let (given, _) = c.block(Call::Forward, SORT, &bytes_of(&cells), &[]);
+        let (given, _) = c.signed_block(Call::Forward, SORT, &bytes_of(&cells), &[]);
         assert_eq!(given, answer, "forward of {cells:?}");
     }
 
@@ -60,7 +60,7 @@ pub fn samples(c: &mut Comparison) {
 
 fn block(c: &mut Comparison, call: Call, cells: &[i64], result: &[i64]) {
     let output = c.random.bytes(8 * (cells.len() / 2 + 1));
-    let (answer, left) = c.block(call, SORT, &bytes_of(cells), &output);
+    let (answer, left) = c.signed_block(call, SORT, &bytes_of(cells), &output);
     assert_eq!(answer, 0, "{call:?} of {cells:?}");
     assert_eq!(cells_of(&left), result, "{call:?} of {cells:?}");
     let own = match call {
