@@ -1,4 +1,3 @@
-pub mod Halves
-pub mod Counting
 pub mod ForwardTaken
 pub mod BackwardLeft
+pub mod Tables

@@ -1,5 +1,6 @@
 -- The rounded quotient. Example: `rounded 2 (pos 7)` is 4, since 3.5 goes away from zero, and `rounded 2 (negℤ (pos 7))` is −4.
-use Prim.Native.Nat.{ℕ, suc, _+_, _/_}
+use mathlib.Core.Path.{_≡_}
+use Prim.Native.Nat.{ℕ, suc, _+_, _/_, _^_, _≤_}
 use lib.IntN.{ℤ, pos, negsuc, negℤ}
 
 -- a size n divided by d, to the nearest, halves up: (n + d/2) / d, rounded down
@@ -11,3 +12,9 @@ roundedSize d n = (n + d / 2) / d
 unfoldable pub rounded : ℕ → ℤ → ℤ
 rounded d (pos n) = pos (roundedSize d n)
 rounded d (negsuc n) = negℤ (pos (roundedSize d (suc n)))
+
+-- half of 2^s, as it is lent to the function that rounds
+pub record Halved (s : ℕ) (half : ℤ) : Type 0 where
+  pub least : 1 ≤ s
+  pub most : s ≤ 62
+  pub is : half ≡ pos (2 ^ s / 2)

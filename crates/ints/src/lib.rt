@@ -1,23 +1,16 @@
 // Whole numbers: the laws that later proofs cite (proofs/), the rounded quotient and the absolute value.
 ghost use mathlib.Core.Path.{_≡_};
-ghost use Prim.Native.Nat.{_^_};
+ghost use Prim.Native.Nat.{_^_, _≤_};
 ghost use lib.IntN.{natAbs};
-ghost use Rattle.ints.specs.Quotient.{rounded};
+ghost use Rattle.ints.specs.Quotient.{Halved, rounded};
 
-// x divided by 2^digits, rounded to the nearest whole number, halves away from zero (document 02, Item 1), for every x and every number
-// of digits. The size of x has so many halves of the divisor in it; two of them make one, and so does a last one alone.
-pub fn rounded(digits: usize, x: i64) -> i64
+// x divided by 2^digits, rounded to the nearest whole number, halves away from zero (document 02, Item 1), where x leaves room for half of 2^digits.
+// That half is added, one less where x is negative, and the shift rounds down: x >> 63 is -1 for a negative x and 0 for any other.
+pub fn rounded(digits: usize, half: i64, x: i64) -> i64
+    requires { ⌜ Halved digits half × (natAbs x ≤ 2 ^ 62) ⌝ }
     ensures { λ r. ⌜ r ≡ rounded (2 ^ digits) x ⌝ }
 {
-    if digits == 0 {
-        return x;
-    }
-    if 64 < digits {
-        return 0;
-    }
-    let halves = magnitude(x) >> (digits - 1);
-    let size = ((halves + 1) / 2) as i64;
-    if x < 0 { -size } else { size }
+    (x + half + (x >> 63)) >> digits
 }
 
 // The absolute value of x, for every x.

@@ -3,6 +3,7 @@ mod table;
 
 use kind::BlockKind;
 ghost use mathlib.Core.Path.{_≡_};
+ghost use Prim.Native.Nat.{_*_};
 ghost use lib.IntN.{negℤ, pos};
 ghost use Rattle.ints.specs.Tabulate.{tabulate};
 ghost use Rattle.kind.specs.BlockKinds.{SCALE-DIGITS};
@@ -13,6 +14,14 @@ pub fn quarter_table() -> [u32; 257]
     ensures { λ t. ⌜ t ≡ tabulate 257 (quarterTable SCALE-DIGITS) ⌝ }
 {
     table::QUARTER
+}
+
+// Each sixteenth entry of it, T(0), T(16), .., T(256): what blocks of up to 64 cells need. A table that is a constant is set up anew in each call, and
+// for a small block all 257 entries would take longer than its levels.
+pub fn coarse_table() -> [u32; 17]
+    ensures { λ t. ⌜ t ≡ tabulate 17 (λ j. quarterTable SCALE-DIGITS (j * 16)) ⌝ }
+{
+    table::SIXTEENTHS
 }
 
 // The cosine of a step, whatever its number, from the cosines of a quarter turn: odd about 256, even about 0.

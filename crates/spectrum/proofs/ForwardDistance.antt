@@ -2,10 +2,10 @@
 -- The proof goes in six steps, one file each: the even/odd law of the levels (EvenOdd), the same split of the direct sum (DirectSplit), the
 -- identity for one line and its bounds (Step), one level (OneLevel), the induction over the levels (Distance), and the figures here.
 -- Example: `demand-3 10 few xs long quiet : WithinE 10 xs (forward 10 xs)`.
-use mathlib.Core.Path.{_≡_}
+use mathlib.Core.Path.{_≡_, sym}
 use mathlib.Core.List.{List}
-use Prim.Native.Nat.{ℕ, _+_, _*_, _^_, _≤_, _<_}
-use native.Mathlib.Nat.{le-trans}
+use Prim.Native.Nat.{ℕ, _+_, _*_, _-_, _/_, _%_, _^_, _≤_, _<_}
+use native.Mathlib.Nat.{le-trans, mul-le-mul-right}
 use native.Mathlib.Omega.{arith}
 use lib.Dec.{T, eqb, leb, eqb→eq, leb→le}
 use lib.IntN.{ℤ, pos, natAbs, _-ℤ_, _*ℤ_}
@@ -20,7 +20,7 @@ use Rattle.ints.specs.Cells.{cell}
 use Rattle.kind.specs.Loudness.{LOUDEST-SAMPLE, LOUDEST-LINE}
 use Rattle.spectrum.specs.Levels.{permuted}
 use Rattle.spectrum.specs.Spectrum.{tableCosine, tableSine, levelsAt, forwardAt, forward}
-use Rattle.spectrum.specs.Limits.{LARGEST-CELL}
+use Rattle.spectrum.specs.Limits.{LARGEST-CELL, LARGEST-PRODUCT, Room}
 use Rattle.spectrum.specs.Distance.{bound, directSum, E, WithinE}
 use Rattle.spectrum.proofs.Nearest.{LARGEST-M, Nearest, nearest-at}
 use Rattle.spectrum.proofs.Distance.{distance}
@@ -57,13 +57,38 @@ pub forward-first : (P : ℕ) (xs : List ℤ) → cell (forward P xs) 0 ≡ sum 
 unfolding forward forwardAt
 forward-first P xs = first-line in-force P xs
 
--- ---- room: with samples of 2^28 at most, as a lent spectrum may have, no cell before a level, or after the last, is above 2^40
+-- ---- room: with samples of 2^28 at most, as a lent spectrum may have
 
-rooms : T (alongside leb (tabulate 11 (λ L. 2 * (2 ^ L * LOUDEST-LINE) + 2 * bound SCALE LOUDEST-LINE L)) (tabulate 11 (λ L. LARGEST-CELL)))
+-- what the magnitude law allows after L levels at scale 2^s
+abbrev largest : ℕ → ℕ → ℕ
+largest s L = 2 * (2 ^ L * LOUDEST-LINE) + 2 * bound (2 ^ s) LOUDEST-LINE L
+
+-- At every scale from 2^12 to 2^22 a cell can be multiplied before each level: one test of the eleven scales by the ten levels, of which number j is scale
+-- 2^(12 + j / 10) after j mod 10 levels.
+scaled : ℕ → ℕ
+scaled j = largest (12 + j / 10) (j % 10) * 2 ^ (12 + j / 10)
+
+scaled-rooms : T (alongside leb (tabulate 110 scaled) (tabulate 110 (λ j. LARGEST-PRODUCT)))
+unfolding alongside tabulate bound scaled
+scaled-rooms = tt
+
+scaled-room : (s L : ℕ) → 12 ≤ s → s ≤ 22 → L < 10 → largest s L * 2 ^ s ≤ LARGEST-PRODUCT
+unfolding scaled
+scaled-room s L low high few = go (10 * (s - 12) + L) (omega arith) (omega arith) (omega arith)
+  where
+    go : (j : ℕ) → j < 110 → 12 + j / 10 ≡ s → j % 10 ≡ L → largest s L * 2 ^ s ≤ LARGEST-PRODUCT
+    go j h e f = rw (sym e, sym f) (leb→le _ _ (alongside-at leb scaled (λ j. LARGEST-PRODUCT) 110 110 scaled-rooms j h))
+
+pub level-room : (s : ℕ) → 12 ≤ s → s ≤ 22 → (L P : ℕ) → L < P → P ≤ 10 → (xs : List ℤ) → ((t : ℕ) → natAbs (cell xs t) ≤ LOUDEST-LINE) → (i : ℕ) → Room s (cell (levelsAt s L (permuted P xs)) i)
+level-room s low high L P h few xs quiet i = le-trans (mul-le-mul-right (2 ^ s) (level-size (nearest-at s (omega arith) (omega arith)) LOUDEST-LINE (omega arith) L P (omega arith) few xs quiet i))
+    (scaled-room s L low high (omega arith))
+
+-- at the scale in force no cell before a level, or after the last, is above 2^40
+rooms : T (alongside leb (tabulate 11 (largest SCALE-DIGITS)) (tabulate 11 (λ L. LARGEST-CELL)))
 unfolding alongside tabulate bound
 rooms = tt
 
 pub forward-room : (L P : ℕ) → L ≤ P → P ≤ 10 → (xs : List ℤ) → ((t : ℕ) → natAbs (cell xs t) ≤ LOUDEST-LINE) → (i : ℕ) →
     natAbs (cell (levelsAt SCALE-DIGITS L (permuted P xs)) i) ≤ LARGEST-CELL
 forward-room L P h few xs quiet i = le-trans (level-size in-force LOUDEST-LINE (omega arith) L P h few xs quiet i)
-    (leb→le _ _ (alongside-at leb (λ L. 2 * (2 ^ L * LOUDEST-LINE) + 2 * bound SCALE LOUDEST-LINE L) (λ L. LARGEST-CELL) 11 11 rooms L (omega arith)))
+    (leb→le _ _ (alongside-at leb (largest SCALE-DIGITS) (λ L. LARGEST-CELL) 11 11 rooms L (omega arith)))

@@ -70,7 +70,7 @@ reversed-first P d i hd hi = reversed-split P 1 (suc P) d i (omega arith) hi ∙
 
 -- ---- reversed twice is t, so cell t goes to place `reversed P t`
 
-reversed-twice : (P t : ℕ) → t < 2 ^ P → reversed P (reversed P t) ≡ t
+pub reversed-twice : (P t : ℕ) → t < 2 ^ P → reversed P (reversed P t) ≡ t
 reversed-twice zero t h = unfold reversed in omega arith
 reversed-twice (suc P) t h = ap (reversed (suc P)) (reversed-suc P t) ∙ reversed-first P (t % 2) (reversed P (t / 2)) (omega arith) (reversed-lt P (t / 2))
     ∙ ap (λ (r : ℕ). 2 * r + t % 2) (reversed-twice P (t / 2) (omega (arith, two-pow P))) ∙ whole t

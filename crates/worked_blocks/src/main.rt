@@ -12,7 +12,8 @@ use printing::print_signed;
 use printing::print_text;
 use printing::print_unsigned;
 ghost use mathlib.Core.Path.{_≡_};
-ghost use Prim.Native.Nat.{_≤_};
+ghost use Prim.Native.Nat.{_^_, _≤_};
+ghost use lib.IntN.{natAbs};
 ghost use lib.ListN.{length};
 
 fn main() {
@@ -78,10 +79,13 @@ fn sine_at(step: usize) {
 }
 
 // The rounding of a level.
-fn rounding_of(x: i64) {
+fn rounding_of(x: i64)
+    requires { ⌜ natAbs x ≤ 2 ^ 62 ⌝ }
+{
     print_text(b"rounded");
     print_signed(x);
-    print_signed(ints::rounded(BlockKind::SCALE_DIGITS, x));
+    let half = (BlockKind::SCALE / 2) as i64;
+    print_signed(ints::rounded(BlockKind::SCALE_DIGITS, half, x));
     print_line_end();
 }
 

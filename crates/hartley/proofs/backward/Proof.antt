@@ -1,8 +1,10 @@
 -- `backward` is right because it does what `forward` does, on a spectrum, and then divides each cell by N with rounding.
 use mathlib.Core.Path.{_≡_, refl, sym, _∙_, ap}
 use mathlib.Core.List.{List, [], map}
-use Prim.Native.Nat.{_^_}
+use Prim.Native.Nat.{ℕ, _^_}
+use native.Mathlib.Omega.{arith}
 use lib.IntN.{ℤ}
+use lib.ListN.{length}
 use denote.Ref.{now}
 use Rattle.ints.specs.Quotient.{rounded}
 use Rattle.block.specs.declared.BlockVerdict.{BlockVerdict}
@@ -11,7 +13,12 @@ use Rattle.block.specs.declared.Answer.{Answer}
 use Rattle.block.specs.Tests.{testedSpectrum}
 use Rattle.block.specs.BlockAnswers.{blockAnswer, cellsLeft, verdictNumbers, answerNumbers}
 use Rattle.block.proofs.Taken.{spectrum-accepted}
-use Rattle.spectrum.specs.Spectrum.{backward}
+use Rattle.block.specs.Transformable.{Transformable}
+use Rattle.spectrum.specs.Levels.{transformed}
+use Rattle.spectrum.specs.Spectrum.{forwardAt, forward, backward}
+use Rattle.spectrum.proofs.ForwardDistance.{forward-room}
+use Rattle.spectrum.proofs.Loudness.{length-forward}
+use Rattle.hartley.specs.Inner.{CanDivide}
 use Rattle.hartley.specs.Promises.{NegativeBlock, backwardLeft}
 use Rattle.hartley.proofs.BackwardLeft.{negative-block}
 use Rattle.hartley.proofs.backward.Statement.{statement}
@@ -26,6 +33,11 @@ promised xs zs e a n z = let left : zs ≡ backwardLeft xs = z ∙ sym (ap (cell
 -- what `tested_spectrum` has found of the lent spectrum
 taken : (k : tie.After-kind) → testedSpectrum [] (now (k .before .before .before .before .before .args .cells)) ≡ Taken (k .kind .given .0 .0)
 taken k = sym (k .before .before .tested-spectrum .ensures) ∙ k .kind .given .1
+
+-- the spectrum of cells that are taken can be divided: the magnitude law says how large its lines are
+can-divide : {P : ℕ} {xs ys : List ℤ} → Transformable P xs → ys ≡ forward P xs → CanDivide P ys
+unfolding forward forwardAt transformed
+can-divide {P} {xs} {ys} t e = record { least = t .least; most = t .most; long = ap length e ∙ length-forward P xs; small = λ i. rw e (forward-room P P (omega arith) (t .most) xs (t .quiet) i) }
 
 slice-aggregate-tested-spectrum : tie.Need-slice-aggregate-tested-spectrum
 slice-aggregate-tested-spectrum c = refl
@@ -43,7 +55,7 @@ transform-requires : tie.Need-transform-requires
 transform-requires c κs = spectrum-accepted [] _ _ (taken (c .before .before))
 
 divide-requires : tie.Need-divide-requires
-divide-requires c κs = tt
+divide-requires c κs = let f = c .before .before in let k = f .before .before .before in can-divide (spectrum-accepted [] _ _ (taken k)) (f .transform .ensures)
 
 same-length : tie.Need-same-length
 same-length c = refl

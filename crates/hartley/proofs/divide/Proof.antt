@@ -2,19 +2,25 @@
 use borrow.Author.Needs.{needs, sfits-of}
 use mathlib.Core.Path.{_≡_, refl, sym, _∙_, ap}
 use mathlib.Core.List.{List, [], _∷_, map}
-use Prim.Native.Nat.{ℕ, zero, suc, _+_, _-_, _^_, _≤_, _<_}
+use Prim.Native.Nat.{ℕ, zero, suc, _+_, _-_, _/_, _^_, _≤_, _<_}
 use native.Mathlib.Nat.{le-of-suc-le-suc}
 use native.Mathlib.Omega.{arith}
-use lib.IntN.{ℤ, pos}
+use lib.IntN.{ℤ, pos, natAbs}
 use lib.ListN.{length, set, length-set, length-map}
+use lib.Pow.{pow-mono}
 use lib.Seq.{ext-getD, getD-set-other}
 use lib.Signed.{mag}
 use mir.Facts.{toZ-ofZ}
 use mir.Syntax.{w64}
-use mir.Val.{toZ, ofZ}
-use Rattle.ints.specs.Quotient.{rounded}
-use Rattle.ints.proofs.Filling.{Filled, filled-next}
+use mir.Val.{SFits, toZ, ofZ}
+use mir.ValLaws.{toZ-pos}
+use denote.Ref.{now}
 use Rattle.ints.specs.Cells.{cell}
+use Rattle.ints.specs.Quotient.{Halved, rounded}
+use Rattle.ints.proofs.Filling.{Filled, filled-next}
+use Rattle.ints.proofs.Fit.{fits, reads-back}
+use Rattle.spectrum.specs.Limits.{LARGEST-CELL}
+use Rattle.hartley.specs.Inner.{CanDivide}
 use Rattle.hartley.proofs.divide.Statement.{statement}
 use Rattle.hartley.proofs.divide.Tie as tie
 
@@ -57,11 +63,29 @@ written : (d : ℕ) (y q x : ℤ) (divisor : ℕ) → mag q < 2 ^ 63 → mag x <
     → y ≡ rounded divisor x
 written d y q x divisor f g e w k = w ∙ toZ-ofZ (sfits-of f) ∙ e ∙ ap (rounded d) (toZ-ofZ (sfits-of g)) ∙ ap (λ (n : ℕ). rounded n x) k
 
+module _ {P : ℕ} {xs : List ℤ} (D : CanDivide P xs) where
+  few : length xs ≤ 1024
+  few = omega (arith, D .long, pow-mono {i = P} {j = 10} (D .most))
+
+  half-fits : SFits w64 (pos (length xs / 2))
+  half-fits = fits (pos (length xs / 2)) (omega (arith, few))
+
+  -- half the number of the cells, as it is lent on
+  halved : (half : ℕ) → half ≡ length xs / 2 → Halved P (toZ w64 half)
+  halved half e = record { least = D .least; most = omega (arith, D .most); is = toZ-pos w64 half (omega (arith, few)) ∙ ap pos (e ∙ ap (λ (n : ℕ). n / 2) (D .long)) }
+
+  -- a cell that is not yet divided
+  left-small : (ys : List ℤ) (i : ℕ) → cell ys i ≡ cell xs i → natAbs (toZ w64 (ofZ w64 (cell ys i))) ≤ 2 ^ 62
+  left-small ys i e = rw (e, reads-back (cell xs i) LARGEST-CELL (omega arith) (D .small i)) (omega (arith, D .small i))
+
 abbrev Inv-loop : tie.InvT-loop
-Inv-loop cells₀ p i₀ cells i = Mapped (rounded (2 ^ p)) cells₀ cells i
+Inv-loop cells₀ p half i₀ cells i = Mapped (rounded (2 ^ p)) cells₀ cells i
 
 abbrev μ-loop : tie.MeasureT-loop
-μ-loop cells₀ p i₀ cells i = length cells - i
+μ-loop cells₀ p half i₀ cells i = length cells - i
+
+cast-half : tie.Need-cast-half Inv-loop μ-loop
+cast-half c = half-fits (c .pre)
 
 loop-holds : tie.Need-loop-holds Inv-loop μ-loop
 loop-holds c = mapped-none _ _ _ (omega arith)
@@ -73,10 +97,10 @@ slice-copy-out-x : tie.Need-slice-copy-out-x Inv-loop μ-loop
 slice-copy-out-x c = search needs
 
 rounded-requires : tie.Need-rounded-requires Inv-loop μ-loop
-rounded-requires c κs = search needs
+rounded-requires c κs = let a = c .before .before .loop in let t = c .before .before .before in (halved (t .pre) _ refl, left-small (t .pre) (a .cells) (a .i) (a .inv .old (a .i) (omega arith)))
 
-mul-t5 : tie.Need-mul-t5 Inv-loop μ-loop
-mul-t5 c = search needs
+mul-t8 : tie.Need-mul-t8 Inv-loop μ-loop
+mul-t8 c = search needs
 
 slice-set-from-cells : tie.Need-slice-set-from-cells Inv-loop μ-loop
 slice-set-from-cells c = search needs
@@ -104,11 +128,12 @@ divide-spec =
     (tie.spec
     Inv-loop
     μ-loop
+    cast-half
     loop-holds
     mul-x
     slice-copy-out-x
     rounded-requires
-    mul-t5
+    mul-t8
     slice-set-from-cells
     add-i
     loop-less

@@ -1,65 +1,84 @@
--- `transform` is right because `fill_half_turn` sets just the cosines and sines by which `transform_by` is right.
+-- `transform` is right because it permutes and runs the levels, for which the magnitude law gives room; two cells stay where they are.
 use borrow.Author.Needs.{needs}
-use mathlib.Core.Path.{sym, _∙_, ap}
-use Prim.Native.Nat.{_/_, _≤_}
+use mathlib.Core.Path.{_≡_, refl, sym, _∙_, ap}
+use mathlib.Core.List.{List}
+use Prim.Native.Nat.{ℕ, zero, suc, _^_, _≤_, _<_}
 use native.Mathlib.Omega.{arith}
+use lib.IntN.{ℤ, pos}
 use lib.ListN.{length}
-use lib.Pow.{pow-pos, pow-mono}
-use lib.Seq.{length-take-le}
+use lib.Seq.{ext-getD}
 use denote.Ref.{now}
+use Rattle.ints.specs.Cells.{cell}
+use Rattle.ints.proofs.Tables.{getD-tabulate, length-tabulate}
 use Rattle.kind.specs.BlockKinds.{SCALE-DIGITS}
-use Rattle.spectrum.specs.Spectrum.{tableCosine, tableSine}
 use Rattle.block.specs.Transformable.{Transformable}
-use Rattle.hartley.specs.Inner.{overHalfTurn}
+use Rattle.spectrum.specs.Levels.{permuted, reversed, transformed}
+use Rattle.spectrum.specs.Spectrum.{levelsAt, forwardAt, forward}
+use Rattle.spectrum.proofs.ForwardDistance.{level-room}
+use Rattle.spectrum.proofs.Stages.{length-permuted}
+use Rattle.hartley.specs.Inner.{CanRunLevels}
 use Rattle.hartley.proofs.transform.Statement.{statement}
 use Rattle.hartley.proofs.transform.Tie as tie
 
--- ---- the points of the body: cosines and sines are filled, the start
+two-stay : (xs : List ℤ) → length xs ≡ 2 → permuted 1 xs ≡ xs
+unfolding permuted reversed
+two-stay xs long = ext-getD (pos 0) (permuted 1 xs) xs (length-permuted 1 xs ∙ sym long) (λ i h. go i (omega (arith, length-permuted 1 xs)))
+  where
+    never : {i : ℕ} → suc (suc i) < 2 → ⊥
+    never h = omega arith
 
-abbrev filled-at : tie.After-sines3 → tie.After-fill-half-turn
-filled-at c = c .before .before .before .before .before
+    go : (i : ℕ) → i < 2 → cell (permuted 1 xs) i ≡ cell xs i
+    go zero h = getD-tabulate 2 (λ i. cell xs (reversed 1 i)) (pos 0) 0 h
+    go (suc zero) h = getD-tabulate 2 (λ i. cell xs (reversed 1 i)) (pos 0) 1 h
+    go (suc (suc i)) h = absurd (never h)
 
-abbrev start-at : tie.After-fill-half-turn-arg2 → tie.Start
-start-at c = c .before .before .before .before
+-- the steps of a block are its permutation and its levels
+steps : (P : ℕ) (xs ys : List ℤ) → ys ≡ permuted P xs → levelsAt SCALE-DIGITS P ys ≡ forward P xs
+unfolding forward forwardAt transformed
+steps P xs ys e = ap (levelsAt SCALE-DIGITS P) e
 
--- half of the cells are as many as there is room for
-few : (c : tie.Start) → length (now (c .args .cells)) / 2 ≤ 512
-few c = omega (arith, c .pre .long, pow-mono {i = c .args .p} {j = 10} (c .pre .most))
+levels-can-run : {P : ℕ} {xs ys : List ℤ} → Transformable P xs → ys ≡ permuted P xs → 2 ≤ P → CanRunLevels P ys
+levels-can-run {P} {xs} {ys} t e least = record {
+  least = least;
+  most = t .most;
+  long = ap length e ∙ length-permuted P xs;
+  room = λ L h i. rw e (level-room SCALE-DIGITS (omega arith) (omega arith) L P h (t .most) xs (t .quiet) i);
+}
 
-array-borrow-prefix-cosines : tie.Need-array-borrow-prefix-cosines
-array-borrow-prefix-cosines c = few c
+-- after the permutation
+abbrev start : tie.After-permute → tie.Start
+start c = c .before .before .before
 
-slice-aggregate-cosines : tie.Need-slice-aggregate-cosines
-slice-aggregate-cosines c = sym (length-take-le _ _ (few (c .before)))
+join-two-requires : tie.Need-join-two-requires
+join-two-requires c κs = let t = c .before .before in let one : t .args .p ≡ 1 = omega arith in (t .pre .long ∙ ap (λ (p : ℕ). 2 ^ p) one, λ i. omega (arith, t .pre .quiet i))
 
-array-borrow-prefix-sines : tie.Need-array-borrow-prefix-sines
-array-borrow-prefix-sines c = few (c .before)
+permute-requires : tie.Need-permute-requires
+permute-requires c κs = search needs
 
-slice-aggregate-sines : tie.Need-slice-aggregate-sines
-slice-aggregate-sines c = sym (length-take-le _ _ (few (c .before .before)))
-
-fill-half-turn-requires : tie.Need-fill-half-turn-requires
-fill-half-turn-requires c κs = let s = start-at c in (rw (s .pre .long) (pow-pos (s .args .p)), length-take-le _ _ (few s), length-take-le _ _ (few s))
-
-transform-by-requires : tie.Need-transform-by-requires
-transform-by-requires c κs = let f = filled-at c in let t = start-at (f .before) .pre in let e = f .fill-half-turn .ensures in
-    (t, e .0 ∙ ap (overHalfTurn (tableCosine SCALE-DIGITS)) (t .long), e .1 ∙ ap (overHalfTurn (tableSine SCALE-DIGITS)) (t .long))
+run-levels-requires : tie.Need-run-levels-requires
+run-levels-requires c κs = let f = c .before .before in let t = start f in levels-can-run (t .pre) (f .permute .ensures) (omega (arith, t .pre .least))
 
 same-length : tie.Need-same-length
 same-length c = search needs
 
 returns : tie.Need-returns
-returns c = c .before .before .before .transform-by .ensures
+returns c = let t = c .before .before .before .before in let xs = now (t .args .cells) in let one : 1 ≡ t .args .p = omega arith in
+    c .before .join-two .ensures SCALE-DIGITS (omega arith) (omega arith) ∙ steps 1 xs xs (sym (two-stay xs (t .pre .long ∙ ap (λ (p : ℕ). 2 ^ p) (sym one)))) ∙ ap (λ (p : ℕ). forward p xs) one
+
+same-length-2 : tie.Need-same-length-2
+same-length-2 c = search needs
+
+returns-2 : tie.Need-returns-2
+returns-2 c = let f = c .before .before .before .before in let t = start f in c .before .run-levels .ensures ∙ steps (t .args .p) (now (t .args .cells)) _ (f .permute .ensures)
 
 pub transform-spec : {M : Type 1} → statement M
 transform-spec =
     tie.close
     (tie.spec
-    array-borrow-prefix-cosines
-    slice-aggregate-cosines
-    array-borrow-prefix-sines
-    slice-aggregate-sines
-    fill-half-turn-requires
-    transform-by-requires
+    join-two-requires
+    permute-requires
+    run-levels-requires
     same-length
-    returns)
+    returns
+    same-length-2
+    returns-2)

@@ -1,122 +1,100 @@
--- `rounded` is right because the size of x by half the divisor, and one more, halved is the rounded size (`size-by-halves`), and the sign is given back.
+-- `rounded` is right because the shift by 63 takes 1 off a negative x and nothing off any other, and the last shift rounds down (`rounded-by-floor`).
 use borrow.Author.Needs.{needs}
-use borrow.Author.Tests.{ltb-true}
-use mathlib.Core.Path.{_≡_, refl, sym, _∙_, ap}
-use mathlib.Core.Bool.{true, false, true≢false}
+use mathlib.Core.Path.{_≡_, refl, sym, _∙_, ap, subst}
 use mathlib.Core.List.{[], _∷_}
-use Prim.Native.Nat.{ℕ, _+_, _-_, _/_, _^_, _≤_, _<_}
-use native.Mathlib.Nat.{div-le-self}
+use Prim.Native.Nat.{ℕ, _+_, _*_, _/_, _^_, _≤_, _<_}
+use native.Mathlib.Nat.{div-eq-of-lt}
 use native.Mathlib.Omega.{arith}
-use lib.IntN.{ℤ, pos, negsuc, negℤ, natAbs, _-ℤ_}
+use lib.IntN.{ℤ, pos, negsuc, negℤ, natAbs, _+ℤ_, _-ℤ_}
 use lib.Pow.{pow-pos, pow-mono}
-use lib.Signed.{ltZ, natAbs-le}
+use lib.Signed.{shrZ}
 use mir.Facts.{toZ-ofZ}
 use mir.Syntax.{w64}
-use mir.Val.{Fits, SFits, toZ, ofZ}
-use Rattle.ints.specs.Quotient.{rounded, roundedSize}
-use Rattle.ints.proofs.Ring.{ring, quotes}
-use Rattle.ints.proofs.Powers.{two-pow-pred}
-use Rattle.ints.proofs.Abs.{abs-neg}
+use mir.Val.{SFits, toZ, ofZ}
+use Rattle.ints.specs.Quotient.{Halved, rounded}
+use Rattle.ints.proofs.Abs.{abs-plus}
 use Rattle.ints.proofs.Fit.{fits}
-use Rattle.ints.proofs.Rounding.{by-half, size-by-halves, rounded-by-one, rounded-small}
+use Rattle.ints.proofs.Powers.{two-pow-pred}
+use Rattle.ints.proofs.Ring.{ring, quotes}
+use Rattle.ints.proofs.Rounding.{belowZero, rounded-by-floor, rounded-size}
 use Rattle.ints.proofs.rounded.Statement.{statement}
 use Rattle.ints.proofs.rounded.Tie as tie
 
--- ---- the rounded size with the sign of x
+-- ---- the sign of a number that fits, as the shift leaves it
 
-negative : (d : ℕ) (x : ℤ) → ltZ x (pos 0) ≡ true → negℤ (pos (roundedSize d (natAbs x))) ≡ rounded d x
-unfolding rounded
-negative d (pos n) l = absurd (omega (arith, ltb-true n 0 l))
-negative d (negsuc n) l = refl
+abbrev sign : ℤ → ℤ
+sign x = shrZ x 9223372036854775808
 
-not-negative : (d : ℕ) (x : ℤ) → ltZ x (pos 0) ≡ false → pos (roundedSize d (natAbs x)) ≡ rounded d x
-unfolding rounded
-not-negative d (pos n) l = refl
-not-negative d (negsuc n) l = absurd (true≢false l)
+sign-is : (x : ℤ) → natAbs x ≤ 2 ^ 62 → sign x ≡ negℤ (belowZero x)
+sign-is (pos n) h = ap pos (div-eq-of-lt (omega arith))
+sign-is (negsuc n) h = ap negsuc (div-eq-of-lt (omega arith))
 
--- ---- m, the size of x that the machine has, and q, which it makes of it
-
-abbrev q : ℕ → ℕ → ℕ
-q digits m = (m / 2 ^ (digits - 1) + 1) / 2
-
-record Sized (digits : ℕ) (x : ℤ) (m : ℕ) : Type 0 where
-  one-more : Fits w64 (m / 2 ^ (digits - 1) + 1)
-  signed : SFits w64 (pos (q digits m))
-  minus : SFits w64 (pos 0 -ℤ toZ w64 (q digits m))
-  negative-right : ltZ x (pos 0) ≡ true → toZ w64 (ofZ w64 (pos 0 -ℤ toZ w64 (q digits m))) ≡ rounded (2 ^ digits) x
-  other-right : ltZ x (pos 0) ≡ false → toZ w64 (q digits m) ≡ rounded (2 ^ digits) x
-
-sized : (digits : ℕ) (x : ℤ) (m : ℕ) → 0 < digits → SFits w64 x → m ≡ natAbs x → Sized digits x m
-sized digits x m some f e = record {
-  one-more = record { fits = omega (arith, small) };
-  signed = signed;
-  minus = rw minus (fits (negℤ (pos (q digits m))) less);
-  negative-right = λ l. ap (λ (z : ℤ). toZ w64 (ofZ w64 z)) minus ∙ toZ-ofZ (fits (negℤ (pos (q digits m))) less) ∙ ap (λ (n : ℕ). negℤ (pos n)) right ∙ negative (2 ^ digits) x l;
-  other-right = λ l. toZ-ofZ signed ∙ ap pos right ∙ not-negative (2 ^ digits) x l;
-}
+sign-size : (x : ℤ) → natAbs x ≤ 2 ^ 62 → natAbs (sign x) ≤ 1
+sign-size x h = rw (sign-is x h) (small x)
   where
-    small : m / 2 ^ (digits - 1) ≤ 2 ^ 63
-    small = omega (arith, div-le-self m (2 ^ (digits - 1)), natAbs-le x (f .sfits))
+    small : (x : ℤ) → natAbs (negℤ (belowZero x)) ≤ 1
+    small (pos n) = omega arith
+    small (negsuc n) = omega arith
 
-    signed : SFits w64 (pos (q digits m))
-    signed = record { sfits = omega (arith, small) }
+-- ---- the steps
 
-    minus : pos 0 -ℤ toZ w64 (q digits m) ≡ negℤ (pos (q digits m))
-    minus = ap (λ (z : ℤ). pos 0 -ℤ z) (toZ-ofZ signed) ∙ ring (pos (q digits m) ∷ []) (search quotes) tt
+module _ (s : ℕ) (half x : ℤ) (S : Halved s half) (small : natAbs x ≤ 2 ^ 62) where
+  half-size : natAbs half ≤ 2 ^ 61
+  half-size = rw (S .is) (omega (arith, pow-mono {i = s} {j = 62} (S .most)))
 
-    less : natAbs (negℤ (pos (q digits m))) < 2 ^ 63
-    less = omega (arith, abs-neg (pos (q digits m)), small)
+  first-fits : SFits w64 (x +ℤ half)
+  first-fits = fits (x +ℤ half) (omega (arith, abs-plus x half, half-size))
 
-    right : q digits m ≡ roundedSize (2 ^ digits) (natAbs x)
-    right = ap (q digits) e ∙ size-by-halves (2 ^ (digits - 1)) (pow-pos (digits - 1)) (natAbs x) ∙ sym (by-half (2 ^ (digits - 1)) (natAbs x))
-        ∙ ap (λ (d : ℕ). roundedSize d (natAbs x)) (sym (two-pow-pred digits some))
+  sign-fits : SFits w64 (sign x)
+  sign-fits = fits (sign x) (omega (arith, sign-size x small))
 
-halves : (c : tie.After-magnitude) → let a = c .before .before .before .args in Sized (a .digits) (a .x) (c .magnitude .result)
-halves c = let s = c .before .before .before in sized _ _ _ (omega arith) (s .fits .x) (c .magnitude .ensures ∙ ap natAbs (toZ-ofZ (s .fits .x)))
+  second-fits : SFits w64 (x +ℤ half +ℤ sign x)
+  second-fits = fits (x +ℤ half +ℤ sign x) (omega (arith, abs-plus (x +ℤ half) (sign x), abs-plus x half, half-size, sign-size x small))
+
+  two-halves : 2 ^ s ≡ 2 * (2 ^ s / 2)
+  two-halves = omega (arith, two-pow-pred s (omega (arith, S .least)))
+
+  some : 0 < 2 ^ s / 2
+  some = omega (arith, two-halves, pow-pos s)
+
+  taken : x +ℤ half +ℤ sign x ≡ x +ℤ pos (2 ^ s / 2) -ℤ belowZero x
+  taken = rw (sign-is x small, S .is) (out (belowZero x) (pos (2 ^ s / 2)))
+    where
+      out : (b h : ℤ) → x +ℤ h +ℤ negℤ b ≡ x +ℤ h -ℤ b
+      out b h = ring (x ∷ h ∷ b ∷ []) (search quotes) tt
+
+  right : shrZ (x +ℤ half +ℤ sign x) (2 ^ s) ≡ rounded (2 ^ s) x
+  right = ap (λ (y : ℤ). shrZ y (2 ^ s)) taken
+      ∙ subst (λ (d : ℕ). shrZ (x +ℤ pos (2 ^ s / 2) -ℤ belowZero x) d ≡ rounded d x) (sym two-halves) (rounded-by-floor (2 ^ s / 2) some x)
+
+  size : natAbs (rounded (2 ^ s) x) < 2 ^ 63
+  size = omega (arith, rounded-size (2 ^ s) (pow-pos s) x)
+
+  -- the same as the machine has it, where a and c are read for x, and b for half
+  module _ (a b c : ℤ) (ea : a ≡ x) (eb : b ≡ half) (ec : c ≡ x) where
+    pub sum-fits : SFits w64 (a +ℤ b)
+    sum-fits = rw (ea, eb) first-fits
+
+    pub raised-fits : SFits w64 (toZ w64 (ofZ w64 (a +ℤ b)) +ℤ toZ w64 (ofZ w64 (sign c)))
+    raised-fits = rw (ea, eb, ec, toZ-ofZ first-fits, toZ-ofZ sign-fits) second-fits
+
+    pub result : toZ w64 (ofZ w64 (shrZ (toZ w64 (ofZ w64 (toZ w64 (ofZ w64 (a +ℤ b)) +ℤ toZ w64 (ofZ w64 (sign c))))) (2 ^ s))) ≡ rounded (2 ^ s) x
+    result = rw (ea, eb, ec, toZ-ofZ first-fits, toZ-ofZ sign-fits, toZ-ofZ second-fits, right) (toZ-ofZ (fits (rounded (2 ^ s) x) size))
+
+add-result : tie.Need-add-result
+add-result c = let a = c .args in let f = c .fits in sum-fits (a .digits) (a .half) (a .x) (c .pre .0) (c .pre .1) _ _ (a .x) (toZ-ofZ (f .x)) (toZ-ofZ (f .half)) refl
+
+add-result-2 : tie.Need-add-result-2
+add-result-2 c = let a = c .args in let f = c .fits in raised-fits (a .digits) (a .half) (a .x) (c .pre .0) (c .pre .1) _ _ _ (toZ-ofZ (f .x)) (toZ-ofZ (f .half)) (toZ-ofZ (f .x))
+
+cast-result : tie.Need-cast-result
+cast-result c = search needs
+
+shr-result : tie.Need-shr-result
+shr-result c = search needs
 
 returns : tie.Need-returns
-returns c = rw (c .if1 .taken) (toZ-ofZ (c .before .fits .x) ∙ sym (rounded-by-one (c .before .args .x)))
-
-returns-2 : tie.Need-returns-2
-returns-2 c = let a = c .before .before .args in let f = c .before .before .fits .x in
-    rw (two-pow-pred (a .digits) (omega arith))
-    (sym (rounded-small (2 ^ (a .digits - 1)) (a .x) (omega (arith, natAbs-le (a .x) (f .sfits), pow-mono {i = 64} {j = a .digits - 1} (omega arith)))))
-
-magnitude-requires : tie.Need-magnitude-requires
-magnitude-requires c κs = search needs
-
-sub-halves : tie.Need-sub-halves
-sub-halves c = search needs
-
-shr-halves : tie.Need-shr-halves
-shr-halves c = search needs
-
-add-size : tie.Need-add-size
-add-size c = (halves c) .one-more
-
-cast-size : tie.Need-cast-size
-cast-size c = (halves c) .signed
-
-sub-result : tie.Need-sub-result
-sub-result c = (halves (c .before)) .minus
-
-returns-3 : tie.Need-returns-3
-returns-3 c = (halves (c .before)) .negative-right (rw (toZ-ofZ (c .before .before .before .before .fits .x)) at (c .if3 .taken))
-
-returns-4 : tie.Need-returns-4
-returns-4 c = (halves (c .before)) .other-right (rw (toZ-ofZ (c .before .before .before .before .fits .x)) at (c .if3 .left))
+returns c = let a = c .args in let f = c .fits in result (a .digits) (a .half) (a .x) (c .pre .0) (c .pre .1) _ _ _ (toZ-ofZ (f .x)) (toZ-ofZ (f .half)) (toZ-ofZ (f .x))
 
 pub rounded-spec : {M : Type 1} → statement M
-rounded-spec =
-    tie.close
-    (tie.spec
-    returns
-    returns-2
-    magnitude-requires
-    sub-halves
-    shr-halves
-    add-size
-    cast-size
-    sub-result
-    returns-3
-    returns-4)
+rounded-spec = tie.close (tie.spec add-result add-result-2 cast-result shr-result returns)

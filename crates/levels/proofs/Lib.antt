@@ -1,0 +1,4 @@
+pub mod PartByPart
+pub mod Blocks
+pub mod TwoBlocks
+pub mod Twos
