@@ -12,17 +12,17 @@ use Rattle.block.proofs.Taken.{output-none, spectrum-accepted}
 use Rattle.spectrum.specs.Spectrum.{forward}
 use Rattle.hartley.specs.Promises.{FirstLineExact, NearDirectSum, NegativeSpectrum, forwardLeft}
 use Rattle.hartley.proofs.ForwardTaken.{first-line-exact, forward-taken, near-direct-sum, negative-spectrum}
-use Rattle.host.specs.CellBytes.{cellsIn}
-use Rattle.host.specs.EntryBytes.{forwardBytes}
-use Rattle.host.specs.Inner.{Answered}
-use Rattle.host.proofs.Packing.{nothing-refused}
-use Rattle.host.proofs.Counts.{left-spelled}
+use Rattle.cell_bytes.specs.CellBytes.{cellsIn}
+use Rattle.block_bytes.specs.BytesLeft.{forwardBytes}
+use Rattle.block_bytes.specs.Inner.{ForwardAnswered}
+use Rattle.packing.proofs.Packing.{nothing-refused}
+use Rattle.block_bytes.proofs.Counts.{left-spelled}
 
 spelled-cells : (bytes : List ℕ) → cellsIn (forwardBytes bytes) ≡ forwardLeft (cellsIn bytes)
 spelled-cells bytes = let xs = cellsIn bytes in left-spelled (λ P. forward P xs) bytes (testedSamples xs)
     (λ kind e i. omega (arith, spectrum-accepted [] (forward (kind .p) xs) kind (forward-taken [] xs kind e (output-none _)) .quiet i))
 
-module _ (before : List ℕ) {after : List ℕ} {answer : ℕ} (a : Answered (testedSamples (cellsIn before)) (forwardBytes before) after answer) (z : answer ≡ 0) where
+module _ (before : List ℕ) {after : List ℕ} {answer : ℕ} (a : ForwardAnswered before after answer) (z : answer ≡ 0) where
   done : blockAnswer (testedSamples (cellsIn before)) ≡ Done
   done = nothing-refused (blockAnswer (testedSamples (cellsIn before))) (sym (a .says) ∙ z)
 

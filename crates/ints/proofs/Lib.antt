@@ -2,6 +2,7 @@ pub mod Laws
 pub mod Ring
 pub mod Order
 pub mod Comparisons
+pub mod Complement
 pub mod Abs
 pub mod Powers
 pub mod Rounding

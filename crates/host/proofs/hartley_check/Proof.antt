@@ -7,8 +7,8 @@ use Rattle.trace.specs.Contents.{contents}
 use Rattle.trace.specs.TraceAnswers.{traceAnswer, contentsNumbers}
 use Rattle.trace.proofs.Fetching.{numbers-told}
 use Rattle.trace.proofs.Ranges.{accepted-range, refused-range}
-use Rattle.host.specs.Packing.{packedTrace, unpackedTrace}
-use Rattle.host.proofs.Packing.{trace-unpacked}
+use Rattle.packing.specs.Packing.{packedTrace, unpackedTrace}
+use Rattle.packing.proofs.Packing.{trace-unpacked}
 use Rattle.host.proofs.hartley_check.Statement.{statement}
 use Rattle.host.proofs.hartley_check.Tie as tie
 

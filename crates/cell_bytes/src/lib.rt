@@ -1,0 +1,83 @@
+// Cells as bytes, for hosts in C: eight bytes each, two's complement, least byte first (document 01, Parts of the engine).
+ghost use mathlib.Core.Path.{_≡_};
+ghost use Prim.Native.Nat.{_*_, _≤_};
+ghost use lib.ListN.{length};
+ghost use Rattle.little_endian.specs.Reading.{signeds, unsigned};
+ghost use Rattle.little_endian.specs.Spelling.{spelled, spelledSigneds};
+ghost use Rattle.cell_bytes.specs.CellBytes.{CELL, cellCount};
+
+// The bytes of a cell.
+pub const CELL: usize = 8;
+
+// The last byte of a cell, which is the most significant one.
+const LAST: usize = CELL - 1;
+
+// The number of cells that so many bytes are read as: 0, which no call takes, where a byte is left over or there are more than the most.
+pub fn cell_count(most: usize, bytes: usize) -> usize
+    ensures { λ r. ⌜ (r ≡ cellCount most bytes) × (CELL * r ≤ most) ⌝ }
+{
+    if bytes % CELL != 0 {
+        return 0;
+    }
+    if most < bytes {
+        return 0;
+    }
+    bytes / CELL
+}
+
+// Reads as many cells as there is room for.
+pub fn decode(bytes: &[u8], cells: &mut [i64])
+    requires { ⌜ CELL * length (now cells) ≤ length (now bytes) ⌝ }
+    ensures { λ _. ⌜ now (cells .exit) ≡ signeds CELL (length (now (cells .entry))) (now (bytes .entry)) ⌝ }
+{
+    let mut i = 0;
+    while i < cells.len() {
+        let at = CELL * i;
+        cells[i] = little_endian::signed_of_word(word(&bytes[at..at + CELL]));
+        i += 1;
+    }
+}
+
+// The number that the eight bytes of a cell spell, from the most significant one on.
+fn word(bytes: &[u8]) -> u64
+    requires { ⌜ length (now bytes) ≡ CELL ⌝ }
+    ensures { λ r. ⌜ r ≡ unsigned (now (bytes .entry)) ⌝ }
+{
+    let mut word = 0;
+    let mut i = 0;
+    while i < CELL {
+        word = 256 * word + bytes[LAST - i] as u64;
+        i += 1;
+    }
+    word
+}
+
+// Writes cells as bytes.
+pub fn encode(cells: &[i64], bytes: &mut [u8])
+    requires { ⌜ length (now bytes) ≡ CELL * length (now cells) ⌝ }
+    ensures { λ _. ⌜ now (bytes .exit) ≡ spelledSigneds CELL (now (cells .entry)) ⌝ }
+{
+    let mut i = 0;
+    while i < cells.len() {
+        let at = CELL * i;
+        put_word(
+            little_endian::word_of_signed(cells[i]),
+            &mut bytes[at..at + CELL],
+        );
+        i += 1;
+    }
+}
+
+// Writes a number as the eight bytes of a cell, the least significant one first.
+fn put_word(word: u64, bytes: &mut [u8])
+    requires { ⌜ length (now bytes) ≡ CELL ⌝ }
+    ensures { λ _. ⌜ now (bytes .exit) ≡ spelled CELL word ⌝ }
+{
+    let mut rest = word;
+    let mut i = 0;
+    while i < CELL {
+        bytes[i] = (rest % 256) as u8;
+        rest /= 256;
+        i += 1;
+    }
+}

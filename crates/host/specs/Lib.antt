@@ -1,4 +1,0 @@
-pub mod CellBytes
-pub mod EntryBytes
-pub mod Packing
-pub mod Inner
