@@ -93,8 +93,8 @@ fn fill(spectrum: &[i64], lines: &mut [i64], which: Doubled)
     }
 }
 
-// One of the two parts of line v; h is H(v) and m is H(N - v).
-fn formula(which: Doubled, h: i64, m: i64) -> i64
+// One of the two parts of line v; h is H(v) and m is H(N - v). This and `power_of` are the formulas of one line, for who knows that neither line is too loud.
+pub fn formula(which: Doubled, h: i64, m: i64) -> i64
     requires { ⌜ (natAbs h ≤ LOUDEST-LINE) × (natAbs m ≤ LOUDEST-LINE) ⌝ }
     ensures { λ r. ⌜ r ≡ formula which h m ⌝ }
 {
@@ -119,7 +119,7 @@ fn fill_powers(spectrum: &[i64], cells: &mut [i64])
 }
 
 // The doubled power of line v; h is H(v) and m is H(N - v).
-fn power_of(h: i64, m: i64) -> i64
+pub fn power_of(h: i64, m: i64) -> i64
     requires { ⌜ (natAbs h ≤ LOUDEST-LINE) × (natAbs m ≤ LOUDEST-LINE) ⌝ }
     ensures { λ r. ⌜ r ≡ pos (square h + square m) ⌝ }
 {

@@ -1,3 +1,3 @@
 mod Putting
-mod Values
+mod Sizes
 mod Blocks

@@ -6,7 +6,7 @@ use mathlib.Core.List.{List, [], _∷_, _++_}
 use Prim.Native.Nat.{ℕ, zero, suc, _+_, _/_, _%_}
 use lib.Dec.{ltb}
 use lib.IntN.{ℤ, pos, negsuc}
-use lib.ListN.{length, replicate}
+use lib.ListN.{length}
 use Rattle.ints.specs.Written.{written}
 
 abbrev pub MINUS : ℕ
@@ -31,15 +31,7 @@ unfolding decimal
 signedDecimal (pos n) = decimal n
 signedDecimal (negsuc n) = MINUS ∷ decimal (suc n)
 
--- how many bytes a field has: they hold every number of 64 bits with its sign, and the byte after it
-abbrev pub FIELD : ℕ
-FIELD = 21
-
--- a field in which nothing stands yet
-abbrev pub EMPTY : List ℕ
-EMPTY = replicate FIELD 0
-
--- a text stands in the bytes of a field from byte `from` to the last, and zeros before it
-pub record Spells (text bytes : List ℕ) (from : ℕ) : Type 0 where
-  pub ends : from + length text ≡ FIELD
-  pub stands : bytes ≡ written EMPTY from text
+-- a number was put as text at a place of the lent bytes, with the byte that comes after it, and ends before another place
+pub record PutField (field : List ℕ) (next : ℕ) (before : List ℕ) (at : ℕ) (after : List ℕ) (end : ℕ) : Type 0 where
+  pub ends : end ≡ at + length field + 1
+  pub bytes : after ≡ written before at (field ++ (next ∷ []))

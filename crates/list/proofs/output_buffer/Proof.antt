@@ -6,7 +6,7 @@ use Rattle.list.proofs.output_buffer.Statement.{statement}
 use Rattle.list.proofs.output_buffer.Tie as tie
 
 returns : tie.Need-returns
-returns c = sym (length-replicate {0} {A = ℕ} 2097152 0)
+returns c = sym (length-replicate {0} {A = ℕ} 786432 0)
 
 pub output-buffer-spec : {M : Type 1} → statement M
 output-buffer-spec = tie.close (tie.spec returns)

@@ -1,0 +1,86 @@
+-- `put_signed` is right because the number's magnitude is put, and a minus sign before it where the number is below zero.
+use mathlib.Core.Path.{_≡_, _∙_}
+use mathlib.Core.List.{List, [], _∷_, _++_}
+use Prim.Native.Nat.{ℕ, _+_, _≤_}
+use native.Mathlib.Omega.{arith}
+use lib.IntN.{ℤ, pos, natAbs}
+use lib.ListN.{length, set, length-set}
+use mir.Facts.{toZ-ofZ}
+use Rattle.ints.proofs.Comparisons.{Less, AtMost, comparisons}
+use Rattle.ints.proofs.Writing.{written-one, written-more}
+use Rattle.text.specs.Decimals.{MINUS, PutField, decimal, signedDecimal}
+use Rattle.text.proofs.Laws.{signed-below, signed-from-zero}
+use Rattle.text.proofs.put_signed.Statement.{statement}
+use Rattle.text.proofs.put_signed.Tie as tie
+
+module _ (x : ℤ) (m : ℕ) (e : m ≡ natAbs x) where
+  below-length : Less x (pos 0) → length (signedDecimal x) ≡ 1 + length (decimal m)
+  below-length l = rw (← (signed-below x m e l)) (omega arith)
+
+  from-zero-length : AtMost (pos 0) x → length (signedDecimal x) ≡ length (decimal m)
+  from-zero-length l = rw (← (signed-from-zero x m e l))
+
+  module _ {next : ℕ} {before after : List ℕ} {at end : ℕ} where
+    -- the sign b was put at i, and m from j on
+    with-sign : (i b j : ℕ) → Less x (pos 0) → i + 1 ≤ length before → i ≡ at → b ≡ MINUS → j ≡ at + 1 → PutField (decimal m) next (set before i b) j after end
+        → PutField (signedDecimal x) next before at after end
+    with-sign i b j l h ei eb ej p = rw (← (signed-below x m e l)) (record {
+      ends = omega (arith, p .ends);
+      bytes = p .bytes ∙ rw (ei, eb, ej, written-one before at MINUS (omega arith)) (written-more before at (MINUS ∷ []) (decimal m ++ (next ∷ [])) (omega arith));
+    })
+
+    without-sign : AtMost (pos 0) x → PutField (decimal m) next before at after end → PutField (signedDecimal x) next before at after end
+    without-sign l p = rw (← (signed-from-zero x m e l)) p
+
+magnitude-requires : tie.Need-magnitude-requires
+magnitude-requires c κs = tt
+
+slice-write-out : tie.Need-slice-write-out
+slice-write-out c = omega arith
+
+add-put-decimal : tie.Need-add-put-decimal
+add-put-decimal c = omega arith
+
+-- the number that is put
+size : (m : tie.After-magnitude) → m .magnitude .result ≡ natAbs (m .before .before .args .x)
+size m = rw (toZ-ofZ (m .before .before .fits .x)) at (m .magnitude .ensures)
+
+below : (b : tie.Then1) → Less (b .before .before .before .args .x) (pos 0)
+below b = let t = rw (toZ-ofZ (b .before .before .before .fits .x)) at (b .if1 .taken) in omega comparisons
+
+from-zero : (b : tie.Else1) → AtMost (pos 0) (b .before .before .before .args .x)
+from-zero b = let t = rw (toZ-ofZ (b .before .before .before .fits .x)) at (b .if1 .left) in omega comparisons
+
+put-decimal-requires : tie.Need-put-decimal-requires
+put-decimal-requires c κs = let m = c .before .before in simp length-set (omega (arith, below-length (m .before .before .args .x) _ (size m) (below (c .before))))
+
+put-decimal-requires-2 : tie.Need-put-decimal-requires-2
+put-decimal-requires-2 c κs = let m = c .before .before in omega (arith, from-zero-length (m .before .before .args .x) _ (size m) (from-zero (c .before)))
+
+same-length : tie.Need-same-length
+same-length c = c .before .before .put-decimal .kept .1 .1 .0 ∙ simp length-set
+
+returns : tie.Need-returns
+returns c = let b = c .before .before .before .before in let m = b .before in
+    with-sign (m .before .before .args .x) _ (size m) _ _ _ (below b) (omega arith) (omega arith) (omega arith) (omega arith) (c .before .before .put-decimal .ensures)
+
+same-length-2 : tie.Need-same-length-2
+same-length-2 c = c .before .before .put-decimal2 .kept .1 .1 .0
+
+returns-2 : tie.Need-returns-2
+returns-2 c = let b = c .before .before .before .before in let m = b .before in
+    without-sign (m .before .before .args .x) _ (size m) (from-zero b) (c .before .before .put-decimal2 .ensures)
+
+pub put-signed-spec : {M : Type 1} → statement M
+put-signed-spec =
+    tie.close
+    (tie.spec
+    magnitude-requires
+    slice-write-out
+    add-put-decimal
+    put-decimal-requires
+    put-decimal-requires-2
+    same-length
+    returns
+    same-length-2
+    returns-2)
