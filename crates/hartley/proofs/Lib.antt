@@ -1,3 +1,4 @@
 pub mod ForwardTaken
 pub mod BackwardLeft
 pub mod Tables
+pub mod Steps

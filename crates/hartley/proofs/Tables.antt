@@ -19,7 +19,7 @@ abbrev pub entries : ℕ → List ℕ
 entries t = tabulate (2 ^ t + 1) (λ j. quarterTable SCALE-DIGITS (j * 2 ^ (8 - t)))
 
 pub levels-ready : {P : ℕ} {xs : List ℤ} → CanRunLevels P xs → (t : ℕ) (quarter : List ℕ) (half : ℤ) → t ≤ 8 → P ≤ t + 2 → quarter ≡ entries t → half ≡ pos (SCALE / 2) →
-    (2 ≤ P) × (length xs ≡ 2 ^ P) × Ready SCALE-DIGITS half P quarter xs
+    (3 ≤ P) × (length xs ≡ 2 ^ P) × Ready SCALE-DIGITS half P quarter xs
 levels-ready {P} {xs} R t quarter half most enough at-quarter halved = (
   R .least,
   R .long,

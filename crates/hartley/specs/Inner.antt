@@ -9,9 +9,9 @@ use Rattle.ints.specs.Cells.{cell}
 use Rattle.spectrum.specs.Limits.{LARGEST-CELL, Room}
 use Rattle.spectrum.specs.Spectrum.{levelsAt}
 
--- the levels of 2^P cells, four at least, can run at the scale in force: before each of them every cell has room
+-- the levels of 2^P cells, eight at least, can run at the scale in force: before each of them every cell has room
 pub record CanRunLevels (P : ℕ) (xs : List ℤ) : Type 0 where
-  pub least : 2 ≤ P
+  pub least : 3 ≤ P
   pub most : P ≤ 10
   pub long : length xs ≡ 2 ^ P
   pub room : (L : ℕ) → L < P → (i : ℕ) → Room SCALE-DIGITS (cell (levelsAt SCALE-DIGITS L xs) i)

@@ -2,6 +2,7 @@
 use block::Answer;
 use block::BlockVerdict;
 use kind::BlockKind;
+use kind::Moment;
 ghost use mathlib.Core.Path.{_≡_};
 ghost use mathlib.Core.List.{[], map};
 ghost use Prim.Native.Nat.{_^_, _≤_};
@@ -53,16 +54,29 @@ pub fn backward(cells: &mut [i64]) -> Answer
     }
 }
 
-// Permutes the 2^p cells and runs all levels on them. Two cells stay where they are, and their one level is the same at every scale.
+// Permutes the 2^p cells and runs all levels on them.
 fn transform(cells: &mut [i64], p: usize)
     requires { ⌜ Transformable p (now cells) ⌝ }
+    ensures { λ _. ⌜ now (cells .exit) ≡ forward p (now (cells .entry)) ⌝ }
+{
+    if p <= 2 {
+        transform_short(cells, p);
+    } else {
+        permutation::permute(cells, p);
+        run_levels(cells, p);
+    }
+}
+
+// The same of two cells, which stay where they are, or of four, of which the middle two are exchanged. Their levels need no table.
+fn transform_short(cells: &mut [i64], p: usize)
+    requires { ⌜ (p ≤ 2) × Transformable p (now cells) ⌝ }
     ensures { λ _. ⌜ now (cells .exit) ≡ forward p (now (cells .entry)) ⌝ }
 {
     if p == 1 {
         levels::join_two(cells);
     } else {
-        permutation::permute(cells, p);
-        run_levels(cells, p);
+        permutation::exchange(cells, Moment(1), Moment(2));
+        levels::join_four(cells);
     }
 }
 

@@ -2,11 +2,11 @@
 use mathlib.Core.Path.{_≡_, refl, sym, _∙_, ap}
 use mathlib.Core.List.{List}
 use Prim.Native.Nat.{ℕ, suc, _+_, _*_, _-_, _/_, _%_, _^_, _≤_, _<_}
-use native.Mathlib.Nat.{mod-self, mul-assoc, zero-mul, zero-add, one-mul}
+use native.Mathlib.Nat.{mul-le-mul-left, mod-self, mul-assoc, zero-mul, zero-add, one-mul}
 use native.Mathlib.Omega.{arith}
 use lib.IntN.{ℤ, pos, natAbs}
 use lib.ListN.{length}
-use lib.Pow.{pow-pos, pow-add}
+use lib.Pow.{pow-pos, pow-add, pow-mono}
 use Rattle.ints.specs.Cells.{cell}
 use Rattle.ints.specs.Quotient.{rounded}
 use Rattle.ints.specs.Tabulate.{tabulate}
@@ -21,7 +21,7 @@ use Rattle.spectrum.specs.Spectrum.{tableCosine, tableSine, lineAt, joinedAt, l
 use Rattle.spectrum.proofs.Pairs.{in-pair}
 use Rattle.spectrum.proofs.Stages.{length-level, length-levels, level-cell, levels-within, joined-within}
 use Rattle.pair.specs.Pair.{Joinable, joinedPair, pairLine}
-use Rattle.levels.specs.Ready.{Ready, Serves}
+use Rattle.levels.specs.Ready.{LARGEST-FIRST, NoneAbove, Ready, Serves}
 
 -- ---- a level, and some levels, on a block among others
 
@@ -80,17 +80,18 @@ next-level s L xs ys e = ap (levelAt s (2 ^ L)) e
 pub serves-fewer : {s : ℕ} {half : ℤ} {L : ℕ} {quarter : List ℕ} → Serves s half L quarter → (l : ℕ) → l ≤ L → (h : ℤ) → h ≡ half → Serves s h l quarter
 serves-fewer S l le h e = record { scale = rw e (S .scale); t = S .t; most = S .most; enough = omega (arith, S .enough); at-quarter = S .at-quarter }
 
+-- all entries make a quarter turn
+pub quarter-turn : (t : ℕ) → t ≤ 8 → 2 ^ t * 2 ^ (8 - t) ≡ 256
+quarter-turn t h = sym (pow-add 2 t (8 - t)) ∙ ap (λ (k : ℕ). 2 ^ k) (sum t h)
+  where
+    sum : (t : ℕ) → t ≤ 8 → t + (8 - t) ≡ 8
+    sum t h = omega arith
+
 module _ {s : ℕ} {half : ℤ} {l : ℕ} {quarter : List ℕ} (S : Serves s half (suc (suc l)) quarter) where
   strides-all : 2 ^ l * 2 ^ (S .t - l) ≡ 2 ^ S .t
   strides-all = sym (pow-add 2 l (S .t - l)) ∙ ap (λ (k : ℕ). 2 ^ k) (sum (S .t) (S .enough))
     where
       sum : (t : ℕ) → suc (suc l) ≤ t + 2 → l + (t - l) ≡ t
-      sum t h = omega arith
-
-  quarter-turn : (t : ℕ) → t ≤ 8 → 2 ^ t * 2 ^ (8 - t) ≡ 256
-  quarter-turn t h = sym (pow-add 2 t (8 - t)) ∙ ap (λ (k : ℕ). 2 ^ k) (sum t h)
-    where
-      sum : (t : ℕ) → t ≤ 8 → t + (8 - t) ≡ 8
       sum t h = omega arith
 
   -- a pair whose halves have 2 · 2^l cells can be joined
@@ -109,6 +110,11 @@ module _ {s : ℕ} {half : ℤ} {l : ℕ} {quarter : List ℕ} (S : Serves s hal
   -- the last entry of the quarter is 2^l strides on
   pub entries-many : length quarter ≡ 2 ^ l * 2 ^ (S .t - l) + 1
   entries-many = ap length (S .at-quarter) ∙ length-tabulate (2 ^ S .t + 1) _ ∙ ap (λ (m : ℕ). m + 1) (sym strides-all)
+
+-- before level 1 every cell has room at a scale of 2^4 at least
+pub cells-small : {s : ℕ} {half : ℤ} {L : ℕ} {quarter : List ℕ} {xs : List ℤ} → Ready s half (suc L) quarter xs → NoneAbove LARGEST-FIRST xs
+unfolding levels
+cells-small {s} {half} {L} {quarter} {xs} R i = omega (arith, mul-le-mul-left (natAbs (cell xs i)) (pow-mono {i = 4} {j = s} (R .table .scale .least)), R .room 0 (omega arith) i)
 
 -- a block of 2^l cells is ready for levels 1 to l where all cells are for more; past its end its cells are 0
 pub block-ready : {s : ℕ} {half : ℤ} {L : ℕ} {quarter : List ℕ} {xs : List ℤ} → Ready s half L quarter xs → (l m : ℕ) (part : List ℤ) → l ≤ L → m * 2 ^ l + 2 ^ l ≤ length xs → length part ≡ 2 ^ l →

@@ -1,23 +1,21 @@
--- Blocks of 2^L cells, worked one after the other: the next one is ready, and once two that make up all cells are done, their join is level L + 1.
+-- Blocks of 2^L cells, worked one after the other: the next one is ready, and where two are all cells, their join is level L + 1.
 use mathlib.Core.Path.{_≡_, refl, sym, _∙_, ap}
 use mathlib.Core.List.{List}
 use Prim.Native.Nat.{ℕ, suc, _+_, _*_, _-_, _/_, _%_, _^_, _≤_, _<_}
 use native.Mathlib.Nat.{div-add-mod'}
 use native.Mathlib.Omega.{arith}
-use lib.IntN.{ℤ, natAbs}
+use lib.IntN.{ℤ, pos, natAbs}
 use lib.ListN.{length, take, drop}
 use lib.Pow.{pow-pos}
 use borrow.Rule.Slice.PartMut.{putMid}
 use Rattle.ints.specs.Cells.{cell}
 use Rattle.ints.proofs.Powers.{two-pow}
-use Rattle.spectrum.specs.Levels.{levels}
-use Rattle.spectrum.specs.Limits.{LARGEST-PRODUCT}
+use Rattle.ints.proofs.Slices.{everywhere, part-all}
 use Rattle.spectrum.specs.Spectrum.{levelsAt}
-use Rattle.pair.specs.Pair.{Joinable, joinedPair}
-use Rattle.pair.proofs.Splitting.{room-small}
-use Rattle.levels.specs.Ready.{Ready}
+use Rattle.pair.specs.Pair.{joinedPair}
+use Rattle.levels.specs.Ready.{NoneAbove, Ready}
 use Rattle.levels.proofs.PartByPart.{Done, none-done, part-long, part-cell, done-next, all-done}
-use Rattle.levels.proofs.Blocks.{levels-keep, levels-within-block, pair-is-level, next-level, pair-ready, block-ready}
+use Rattle.levels.proofs.Blocks.{levels-keep, levels-within-block, pair-is-level, next-level, block-ready}
 
 -- levels 1 to L of the blocks before `base` are done
 abbrev pub BlocksDone : ℕ → ℕ → List ℤ → ℕ → List ℤ → Type 0
@@ -43,51 +41,46 @@ module _ (s L : ℕ) {xs : List ℤ} {base : ℕ} {ys : List ℤ} (D : BlocksDon
 pub blocks-done : (s L : ℕ) {xs : List ℤ} {base : ℕ} {ys : List ℤ} → BlocksDone s L xs base ys → length xs ≤ base → ys ≡ levelsAt s L xs
 blocks-done s L = all-done (levelsAt s L) (2 ^ L) (levels-keep s L) (levels-within-block s L)
 
--- before level 1 every cell has room, and so is small
-pub cells-small : {s : ℕ} {half : ℤ} {L : ℕ} {quarter : List ℕ} {xs : List ℤ} → Ready s half (suc L) quarter xs → (i : ℕ) → natAbs (cell xs i) ≤ LARGEST-PRODUCT
-unfolding levels
-cells-small {s} {half} {L} {quarter} {xs} R i = room-small s (cell xs i) (R .room 0 (omega arith) i)
+-- ---- two blocks are all
 
--- ---- two blocks are all; L is l + 1
+module _ (s L : ℕ) (xs : List ℤ) (long : length xs ≡ 2 * 2 ^ L) where
+  abbrev pub firstPart : List ℤ
+  firstPart = take (2 ^ L - 0) (drop 0 xs)
 
-module _ {s : ℕ} {half : ℤ} {l : ℕ} {quarter : List ℕ} {xs : List ℤ} (R : Ready s half (suc (suc l)) quarter xs) (long : length xs ≡ 4 * 2 ^ l) where
-  w : 2 ^ suc l ≡ 2 * 2 ^ l
-  w = two-pow l
+  pub first-long : length firstPart ≡ 2 ^ L
+  first-long = next-long s L (no-block-done s L xs) (2 ^ L) (omega arith) (omega arith)
 
-  pub first-ready : (h : ℤ) → h ≡ half → Ready s h (suc l) quarter (take (2 ^ suc l - 0) (drop 0 xs))
-  first-ready = next-ready s (suc l) (no-block-done s (suc l) xs) (2 ^ suc l) (omega arith) (omega (arith, w)) R (omega arith)
+  module _ (zs : List ℤ) (e : zs ≡ levelsAt s L firstPart) where
+    abbrev pub firstDone : List ℤ
+    firstDone = putMid 0 (2 ^ L - 0) xs zs
 
-  pub first-long : length (take (2 ^ suc l - 0) (drop 0 xs)) ≡ 2 ^ suc l
-  first-long = next-long s (suc l) (no-block-done s (suc l) xs) (2 ^ suc l) (omega arith) (omega (arith, w))
+    pub one-done : BlocksDone s L xs (2 ^ L) firstDone
+    one-done = block-done s L (no-block-done s L xs) (2 ^ L) (omega arith) (omega arith) zs e
 
-  module _ (zs : List ℤ) (e : zs ≡ levelsAt s (suc l) (take (2 ^ suc l - 0) (drop 0 xs))) where
-    abbrev pub ys₁ : List ℤ
-    ys₁ = putMid 0 (2 ^ suc l - 0) xs zs
+    abbrev pub secondPart : List ℤ
+    secondPart = take (2 ^ suc L - 2 ^ L) (drop (2 ^ L) firstDone)
 
-    one-done : BlocksDone s (suc l) xs (2 ^ suc l) ys₁
-    one-done = block-done s (suc l) (no-block-done s (suc l) xs) (2 ^ suc l) (omega arith) (omega (arith, w)) zs e
+    pub second-long : length secondPart ≡ 2 ^ L
+    second-long = next-long s L one-done (2 ^ suc L) (omega (arith, two-pow L)) (omega (arith, two-pow L))
 
-    pub second-ready : (h : ℤ) → h ≡ half → Ready s h (suc l) quarter (take (2 ^ suc (suc l) - 2 ^ suc l) (drop (2 ^ suc l) ys₁))
-    second-ready = next-ready s (suc l) one-done (2 ^ suc (suc l)) (omega (arith, two-pow (suc l))) (omega (arith, w, two-pow (suc l))) R (omega arith)
+    module _ (ws : List ℤ) (f : ws ≡ levelsAt s L secondPart) where
+      abbrev pub bothDone : List ℤ
+      bothDone = putMid (2 ^ L) (2 ^ suc L - 2 ^ L) firstDone ws
 
-    pub second-long : length (take (2 ^ suc (suc l) - 2 ^ suc l) (drop (2 ^ suc l) ys₁)) ≡ 2 ^ suc l
-    second-long = next-long s (suc l) one-done (2 ^ suc (suc l)) (omega (arith, two-pow (suc l))) (omega (arith, w, two-pow (suc l)))
+      pub two-done : bothDone ≡ levelsAt s L xs
+      two-done = blocks-done s L (block-done s L one-done (2 ^ suc L) (omega (arith, two-pow L)) (omega (arith, two-pow L)) ws f) (omega (arith, two-pow L))
 
-    module _ (ws : List ℤ) (f : ws ≡ levelsAt s (suc l) (take (2 ^ suc (suc l) - 2 ^ suc l) (drop (2 ^ suc l) ys₁))) where
-      abbrev pub ys₂ : List ℤ
-      ys₂ = putMid (2 ^ suc l) (2 ^ suc (suc l) - 2 ^ suc l) ys₁ ws
+      pub both-long : length bothDone ≡ 2 * 2 ^ L
+      both-long = ap length two-done ∙ levels-keep s L xs ∙ long
 
-      pub two-done : ys₂ ≡ levelsAt s (suc l) xs
-      two-done = blocks-done s (suc l) (block-done s (suc l) one-done (2 ^ suc (suc l)) (omega (arith, two-pow (suc l))) (omega (arith, w, two-pow (suc l))) ws f) (omega (arith, w, two-pow (suc l)))
+      pub two-joined : (us : List ℤ) → us ≡ joinedPair s bothDone → us ≡ levelsAt s (suc L) xs
+      two-joined us g = g ∙ pair-is-level s (2 ^ L) bothDone (pow-pos L) both-long ∙ next-level s L xs bothDone two-done
 
-      both-long : length ys₂ ≡ 4 * 2 ^ l
-      both-long = ap length two-done ∙ levels-keep s (suc l) xs ∙ long
+-- cells that are small are so in each of the two parts
+module _ (b s L : ℕ) (xs : List ℤ) (long : length xs ≡ 2 * 2 ^ L) (small : NoneAbove b xs) where
+  pub first-small : NoneAbove b (firstPart s L xs long)
+  first-small = part-all (pos 0) (λ z. natAbs z ≤ b) (omega arith) 0 (2 ^ L - 0) xs small
 
-      pub join-ready : (stride : ℕ) → stride ≡ 2 ^ (R .table .t - l) → (h : ℤ) → h ≡ half → Joinable s h stride quarter ys₂
-      join-ready stride e h eh = pair-ready (R .table) ys₂ stride both-long e (λ i. rw two-done (R .room (suc l) (omega arith) i)) h eh
-
-      pub two-joined : (us : List ℤ) → us ≡ joinedPair s ys₂ → us ≡ levelsAt s (suc (suc l)) xs
-      two-joined us g = g ∙ pair-is-level s (2 ^ suc l) ys₂ (pow-pos (suc l)) (both-long ∙ four) ∙ next-level s (suc l) xs ys₂ two-done
-        where
-          four : 4 * 2 ^ l ≡ 2 * 2 ^ suc l
-          four = omega (arith, w)
+  pub second-small : (zs : List ℤ) (e : zs ≡ levelsAt s L (firstPart s L xs long)) → NoneAbove b (secondPart s L xs long zs e)
+  second-small zs e = everywhere (pos 0) (λ z. natAbs z ≤ b) (omega arith) (secondPart s L xs long zs e)
+      (λ i k. rw (part-cell (levelsAt s L) (2 ^ L) (levels-keep s L) (levels-within-block s L) (one-done s L xs long zs e) (2 ^ suc L) (omega (arith, two-pow L)) (omega (arith, two-pow L)) i (omega (arith, second-long s L xs long zs e))) (small (2 ^ L + i)))

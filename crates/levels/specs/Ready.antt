@@ -2,7 +2,7 @@
 use mathlib.Core.Path.{_≡_}
 use mathlib.Core.List.{List}
 use Prim.Native.Nat.{ℕ, suc, _+_, _*_, _-_, _%_, _^_, _≤_, _<_}
-use lib.IntN.{ℤ}
+use lib.IntN.{ℤ, natAbs}
 use lib.ListN.{length}
 use Rattle.ints.specs.Cells.{cell}
 use Rattle.ints.specs.Tabulate.{tabulate}
@@ -10,6 +10,14 @@ use Rattle.cosine.specs.Cosine.{quarterTable}
 use Rattle.pair.specs.Pair.{Scale}
 use Rattle.spectrum.specs.Limits.{Room}
 use Rattle.spectrum.specs.Spectrum.{levelsAt}
+
+-- what a cell may be before the first levels of two or four cells, which need no product and so no scale: it has room at every scale from 2^4 on
+abbrev pub LARGEST-FIRST : ℕ
+LARGEST-FIRST = 2 ^ 57
+
+-- no cell is above b in magnitude
+abbrev pub NoneAbove : ℕ → List ℤ → Type 0
+NoneAbove b xs = (i : ℕ) → natAbs (cell xs i) ≤ b
 
 -- the quarter's cosines at scale 2^s, 2^t + 1 of them, serve the levels 1 to L
 pub record Serves (s : ℕ) (half : ℤ) (L : ℕ) (quarter : List ℕ) : Type 0 where

@@ -2,29 +2,33 @@
 // of them, equally apart, so that a level over halves of n cells takes each (2^t × 2 / n)th.
 ghost use mathlib.Core.Path.{_≡_};
 ghost use mathlib.Core.List.{List};
-ghost use Prim.Native.Nat.{ℕ, _+_, _*_, _%_, _^_, _≤_, _<_};
-ghost use lib.IntN.{ℤ, natAbs};
+ghost use Prim.Native.Nat.{ℕ, _^_, _≤_};
+ghost use lib.IntN.{ℤ};
 ghost use lib.ListN.{length};
-ghost use Rattle.ints.specs.Cells.{cell};
-ghost use Rattle.spectrum.specs.Limits.{LARGEST-PRODUCT};
 ghost use Rattle.spectrum.specs.Spectrum.{levelAt, levelsAt};
-ghost use Rattle.levels.specs.Ready.{LaterReady, LevelReady, Ready};
+ghost use Rattle.levels.specs.Ready.{LARGEST-FIRST, LaterReady, LevelReady, NoneAbove, Ready};
 
-// Levels 1 to p of a block of 2^p cells, four at least.
+// Levels 1 to p of a block of 2^p cells, eight at least.
 pub fn join_levels(cells: &mut [i64], quarter: &[u32], digits: usize, half: i64, p: usize)
-    requires { ⌜ (2 ≤ p) × (length (now cells) ≡ 2 ^ p) × Ready digits half p (now quarter) (now cells) ⌝ }
+    requires { ⌜ (3 ≤ p) × (length (now cells) ≡ 2 ^ p) × Ready digits half p (now quarter) (now cells) ⌝ }
     ensures { λ _. ⌜ now (cells .exit) ≡ levelsAt digits p (now (cells .entry)) ⌝ }
 {
-    if p == 2 {
-        join_four(cells, quarter, digits, half);
-    } else {
-        join_first_levels(cells, quarter, digits, half);
-        join_later_levels(cells, quarter, digits, half, p);
-    }
+    join_first_levels(cells, quarter, digits, half);
+    join_later_levels(cells, quarter, digits, half, p);
+}
+
+// Levels 1 to 3 of each eight cells, which take the quarter's ends and its middle.
+fn join_first_levels(cells: &mut [i64], quarter: &[u32], digits: usize, half: i64)
+    requires { ⌜ Ready digits half 3 (now quarter) (now cells) ⌝ }
+    ensures { λ _. ⌜ now (cells .exit) ≡ levelsAt digits 3 (now (cells .entry)) ⌝ }
+{
+    let last = quarter.len() - 1;
+    let eighths = [quarter[0], quarter[last / 2], quarter[last]];
+    join_eights(cells, &eighths, digits, half);
 }
 
 // Levels 1 to 3 of each eight cells.
-fn join_first_levels(cells: &mut [i64], quarter: &[u32], digits: usize, half: i64)
+fn join_eights(cells: &mut [i64], quarter: &[u32], digits: usize, half: i64)
     requires { ⌜ Ready digits half 3 (now quarter) (now cells) ⌝ }
     ensures { λ _. ⌜ now (cells .exit) ≡ levelsAt digits 3 (now (cells .entry)) ⌝ }
 {
@@ -68,24 +72,25 @@ fn join_eight(cells: &mut [i64], quarter: &[u32], digits: usize, half: i64)
     requires { ⌜ (length (now cells) ≡ 8) × Ready digits half 3 (now quarter) (now cells) ⌝ }
     ensures { λ _. ⌜ now (cells .exit) ≡ levelsAt digits 3 (now (cells .entry)) ⌝ }
 {
-    join_four(&mut cells[0..4], quarter, digits, half);
-    join_four(&mut cells[4..8], quarter, digits, half);
+    join_four(&mut cells[0..4]);
+    join_four(&mut cells[4..8]);
     pair::join(cells, quarter, digits, half, (quarter.len() - 1) / 2);
 }
 
-// Levels 1 and 2 of four cells: level 1 of both twos, then the four joined.
-fn join_four(cells: &mut [i64], quarter: &[u32], digits: usize, half: i64)
-    requires { ⌜ (length (now cells) ≡ 4) × Ready digits half 2 (now quarter) (now cells) ⌝ }
-    ensures { λ _. ⌜ now (cells .exit) ≡ levelsAt digits 2 (now (cells .entry)) ⌝ }
+// Levels 1 and 2 of four cells: level 1 of both twos, then the four joined. They need no product, and are the same at every scale.
+pub fn join_four(cells: &mut [i64])
+    requires { ⌜ (length (now cells) ≡ 4) × NoneAbove LARGEST-FIRST (now cells) ⌝ }
+    ensures { λ _. ⌜ ((s : ℕ) → 4 ≤ s → s ≤ 22 → now (cells .exit) ≡ levelsAt s 2 (now (cells .entry))) ⌝ }
 {
     join_two(&mut cells[0..2]);
     join_two(&mut cells[2..4]);
-    pair::join(cells, quarter, digits, half, quarter.len() - 1);
+    pair::join_plain(cells, 2, 0);
+    pair::join_plain(cells, 2, 1);
 }
 
-// Level 1 of two cells: their sum and their difference, at every scale.
+// Level 1 of two cells: their sum and their difference.
 pub fn join_two(cells: &mut [i64])
-    requires { ⌜ (length (now cells) ≡ 2) × ((i : ℕ) → natAbs (cell (now cells) i) ≤ LARGEST-PRODUCT) ⌝ }
+    requires { ⌜ (length (now cells) ≡ 2) × NoneAbove LARGEST-FIRST (now cells) ⌝ }
     ensures { λ _. ⌜ ((s : ℕ) → 4 ≤ s → s ≤ 22 → now (cells .exit) ≡ levelsAt s 1 (now (cells .entry))) ⌝ }
 {
     pair::join_plain(cells, 1, 0);

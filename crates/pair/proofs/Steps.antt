@@ -16,9 +16,9 @@ use Rattle.cosine.proofs.TableNear.{entry-size}
 use Rattle.ints.specs.Cells.{cell}
 use Rattle.spectrum.specs.Limits.{LARGEST-PRODUCT}
 use Rattle.pair.specs.Pair.{Scale, Quad, Joinable, joinedPair, pairLine, quadded, split, turned}
-use Rattle.pair.proofs.Splitting.{room-small, small-back}
+use Rattle.pair.proofs.Splitting.{room-small, small-back, split-other}
 use Rattle.pair.proofs.Lines.{Q, line-first, line-second, Q-zero, Q-middle, Q-line, Q-mirror}
-use Rattle.pair.proofs.Joining.{Both, Joined, joined-next, joined-all, middle-still}
+use Rattle.pair.proofs.Joining.{Both, Joined, none-joined, joined-next, joined-all, middle-still}
 
 -- an entry of a table as a signed number
 abbrev pub entry : List ℕ → ℕ → ℤ
@@ -173,3 +173,33 @@ module _ {s : ℕ} {half : ℤ} {stride : ℕ} {quarter : List ℕ} {xs : List �
 
           middle-is : cell ws (n + k) ≡ Q s (J .scale .least) (J .scale .most) k n g (J .some) two-halves quarter-turn (cell xs) k
           middle-is = at-middle .two ∙ sym (Q-middle s (J .scale .least) (J .scale .most) k n g (J .some) two-halves quarter-turn (cell xs))
+
+-- ---- four cells, of which every line is plain
+
+pub four-joined : (s : ℕ) → 4 ≤ s → s ≤ 22 → (xs ys zs : List ℤ) → length xs ≡ 4 → ys ≡ split xs 2 0 (cell xs 2) → zs ≡ split ys 2 1 (cell ys 3) → zs ≡ joinedPair s xs
+four-joined s least most xs ys zs long e f = f ∙ ap (λ (ws : List ℤ). split ws 2 1 (cell ys 3)) e
+    ∙ joined-all lines (cell xs) 2 1 xs (cell xs 2) (cell ys 3) start (omega arith) refl
+    (ap (λ (q : ℤ). cell xs 0 +ℤ q) (sym start-is) ∙ sym (first 0 (omega arith))) (ap (λ (q : ℤ). cell xs 0 -ℤ q) (sym start-is) ∙ sym (second 0 (omega arith)))
+    (ap (λ (q : ℤ). cell xs 1 +ℤ q) middle-is ∙ sym (first 1 (omega arith))) (ap (λ (q : ℤ). cell xs 1 -ℤ q) middle-is ∙ sym (second 1 (omega arith)))
+    ∙ ap₂ (λ (m n : ℕ). tabulate m (pairLine s n (cell xs))) (sym long) half
+  where
+    lines : ℕ → ℤ
+    lines = pairLine s 2 (cell xs)
+
+    half : 2 ≡ length xs / 2
+    half = omega arith
+
+    start : Joined lines (cell xs) 2 1 xs
+    start = none-joined lines 2 xs long
+
+    first : (v : ℕ) → v < 2 → pairLine s 2 (cell xs) v ≡ cell xs v +ℤ Q s least most 1 2 256 (omega arith) refl refl (cell xs) v
+    first = line-first s least most 1 2 256 (omega arith) refl refl (cell xs)
+
+    second : (v : ℕ) → v < 2 → pairLine s 2 (cell xs) (2 + v) ≡ cell xs v -ℤ Q s least most 1 2 256 (omega arith) refl refl (cell xs) v
+    second = line-second s least most 1 2 256 (omega arith) refl refl (cell xs)
+
+    start-is : Q s least most 1 2 256 (omega arith) refl refl (cell xs) 0 ≡ cell xs 2
+    start-is = Q-zero s least most 1 2 256 (omega arith) refl refl (cell xs)
+
+    middle-is : cell ys 3 ≡ Q s least most 1 2 256 (omega arith) refl refl (cell xs) 1
+    middle-is = ap (λ (ws : List ℤ). cell ws 3) e ∙ split-other xs 2 0 (cell xs 2) 3 (λ g. omega arith) (λ g. omega arith) ∙ sym (Q-middle s least most 1 2 256 (omega arith) refl refl (cell xs))

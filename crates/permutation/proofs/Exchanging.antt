@@ -1,11 +1,14 @@
 -- What two cells hold that have been exchanged, and all others.
 use mathlib.Core.Path.{_≡_, _∙_}
 use mathlib.Core.List.{List}
-use Prim.Native.Nat.{ℕ, _<_}
+use Prim.Native.Nat.{ℕ, zero, suc, _<_}
+use native.Mathlib.Omega.{arith}
 use lib.IntN.{ℤ, pos}
 use lib.ListN.{length, set, length-set}
 use lib.Seq.{getD-set-same, getD-set-other}
 use Rattle.ints.specs.Cells.{cell}
+use Rattle.ints.proofs.Filling.{filled-all}
+use Rattle.spectrum.specs.Levels.{permuted, reversed}
 use Rattle.permutation.specs.Inner.{exchanged}
 
 module _ (xs : List ℤ) (i j : ℕ) (apart : i ≡ j → ⊥) (first : i < length xs) (second : j < length xs) where
@@ -17,3 +20,19 @@ module _ (xs : List ℤ) (i j : ℕ) (apart : i ≡ j → ⊥) (first : i < leng
 
 pub exchanged-other : (xs : List ℤ) (i j t : ℕ) → (t ≡ i → ⊥) → (t ≡ j → ⊥) → cell (exchanged i j xs) t ≡ cell xs t
 exchanged-other xs i j t a b = getD-set-other (set xs i (cell xs j)) j t (cell xs i) (pos 0) b ∙ getD-set-other xs i t (cell xs j) (pos 0) a
+
+-- ---- four cells: the middle two change places
+
+pub four-permuted : (xs : List ℤ) → length xs ≡ 4 → exchanged 1 2 xs ≡ permuted 2 xs
+unfolding permuted reversed
+four-permuted xs long = filled-all (pos 0) (λ i. cell xs (reversed 2 i)) (exchanged 1 2 xs) 4 (rw (length-set, length-set) long) go
+  where
+    never : {i : ℕ} → suc (suc (suc (suc i))) < 4 → ⊥
+    never h = omega arith
+
+    go : (i : ℕ) → i < 4 → cell (exchanged 1 2 xs) i ≡ cell xs (reversed 2 i)
+    go zero h = exchanged-other xs 1 2 0 (λ e. omega arith) (λ e. omega arith)
+    go (suc zero) h = exchanged-first xs 1 2 (λ e. omega arith) (omega arith) (omega arith)
+    go (suc (suc zero)) h = exchanged-second xs 1 2 (λ e. omega arith) (omega arith) (omega arith)
+    go (suc (suc (suc zero))) h = exchanged-other xs 1 2 3 (λ e. omega arith) (λ e. omega arith)
+    go (suc (suc (suc (suc i)))) h = absurd (never h)

@@ -40,7 +40,7 @@ fn exchange_four(cells: &mut [i64], u: usize, r: usize, half: usize)
 }
 
 // Exchanges the cells of two moments.
-fn exchange(cells: &mut [i64], one: Moment, other: Moment)
+pub fn exchange(cells: &mut [i64], one: Moment, other: Moment)
     requires { ⌜ (one .0 < length (now cells)) × (other .0 < length (now cells)) ⌝ }
     ensures { λ _. ⌜ now (cells .exit) ≡ exchanged (one .0) (other .0) (now (cells .entry)) ⌝ }
 {

@@ -1,80 +1,99 @@
--- `join_first_levels` is right because each round does levels 1 to 3 of one more eight, from the front on, and leaves all others as they are.
+-- `join_first_levels` is right because the quarter's ends and its middle are a table of three entries, and levels 1 to 3 need no other.
 use borrow.Author.Needs.{needs}
-use mathlib.Core.Path.{_≡_, refl}
-use Prim.Native.Nat.{ℕ, _+_, _-_, _≤_}
+use mathlib.Core.Path.{_≡_, refl, sym, _∙_, ap, ap₂}
+use mathlib.Core.List.{List, [], _∷_}
+use Prim.Native.Nat.{ℕ, suc, _+_, _*_, _-_, _/_, _^_, _≤_, _<_}
+use native.Mathlib.Nat.{zero-mul}
 use native.Mathlib.Omega.{arith}
-use lib.ListN.{length}
+use lib.IntN.{ℤ}
+use lib.ListN.{length, getD}
+use lib.Pow.{pow-pos}
 use mir.Facts.{toZ-ofZ}
 use denote.Ref.{now}
-use Rattle.levels.proofs.PartByPart.{part-inside}
-use Rattle.levels.proofs.TwoBlocks.{BlocksDone, no-block-done, next-long, next-ready, block-done, blocks-done}
+use Rattle.ints.specs.Tabulate.{tabulate}
+use Rattle.ints.proofs.Powers.{two-pow-pred}
+use Rattle.ints.proofs.Tables.{getD-tabulate}
+use Rattle.cosine.specs.Cosine.{quarterTable}
+use Rattle.levels.specs.Ready.{Ready, Serves}
+use Rattle.levels.proofs.Blocks.{entries-many, quarter-turn}
 use Rattle.levels.proofs.join_first_levels.Statement.{statement}
 use Rattle.levels.proofs.join_first_levels.Tie as tie
 
-abbrev Inv-loop : tie.InvT-loop
-Inv-loop cells₀ quarter digits half base₀ cells base = BlocksDone digits 3 cells₀ base cells
+module _ {s : ℕ} {half : ℤ} {quarter : List ℕ} (S : Serves s half 3 quarter) where
+  some : 1 ≤ S .t
+  some = omega (arith, S .enough)
 
-abbrev μ-loop : tie.MeasureT-loop
-μ-loop cells₀ quarter digits half base₀ cells base = length cells₀ - base
+  abbrev apart : ℕ
+  apart = 2 ^ (8 - S .t)
 
-abbrev start : tie.In-loop Inv-loop μ-loop → tie.Start Inv-loop μ-loop
-start c = c .before .before .before
+  entry : (j : ℕ) → j ≤ 2 ^ S .t → getD quarter j 0 ≡ quarterTable s (j * apart)
+  entry j h = ap (λ (l : List ℕ). getD l j 0) (S .at-quarter) ∙ getD-tabulate (2 ^ S .t + 1) (λ j. quarterTable s (j * apart)) 0 j (omega arith)
 
-abbrev round : tie.After-cells Inv-loop μ-loop → tie.In-loop Inv-loop μ-loop
-round c = c .before .before .before
+  last-is : length quarter - 1 ≡ 2 ^ S .t
+  last-is = omega (arith, entries-many S, two-pow-pred (S .t) some)
 
--- an eight that begins inside ends inside
-inside : (c : tie.In-loop Inv-loop μ-loop) → c .before .loop .base + 8 ≤ length (now (start c .args .cells))
-inside c = let l = c .before .loop in let s = start c in part-inside 8 (l .base) (length (now (s .args .cells))) (l .inv .whole) (s .pre .whole) (omega (arith, c .loop-test .taken, l .inv .long))
+  whole : 2 ^ S .t * apart ≡ 256
+  whole = quarter-turn (S .t) (S .most)
 
-loop-holds : tie.Need-loop-holds Inv-loop μ-loop
-loop-holds c = let s = c .before in no-block-done (s .args .digits) 3 (now (s .args .cells))
+  -- the first entry, that at the middle and the last
+  eighths : getD quarter 0 0 ∷ getD quarter ((length quarter - 1) / 2) 0 ∷ getD quarter (length quarter - 1) 0 ∷ [] ≡ tabulate 3 (λ j. quarterTable s (j * 128))
+  unfolding tabulate
+  eighths = listed (entry 0 (omega arith) ∙ ap (quarterTable s) (zero-mul apart)) (ap (λ (j : ℕ). getD quarter j 0) middle-is ∙ entry (2 ^ (S .t - 1)) (omega (arith, two-pow-pred (S .t) some)) ∙ ap (quarterTable s) middle-at)
+      (ap (λ (j : ℕ). getD quarter j 0) last-is ∙ entry (2 ^ S .t) (omega arith) ∙ ap (quarterTable s) whole)
+    where
+      listed : {a b c a′ b′ c′ : ℕ} → a ≡ a′ → b ≡ b′ → c ≡ c′ → a ∷ b ∷ c ∷ [] ≡ a′ ∷ b′ ∷ c′ ∷ []
+      listed e f g = rw (e, f, g) refl
 
-add-end : tie.Need-add-end Inv-loop μ-loop
-add-end c = let h = inside c in let e = c .before .loop .inv .long in search needs
+      middle-is : (length quarter - 1) / 2 ≡ 2 ^ (S .t - 1)
+      middle-is = omega (arith, last-is, two-pow-pred (S .t) some)
 
-mul-join-eight : tie.Need-mul-join-eight Inv-loop μ-loop
-mul-join-eight c = let h = inside c in let e = c .before .loop .inv .long in search needs
+      middle-at : 2 ^ (S .t - 1) * apart ≡ 128
+      middle-at = omega (arith, whole, ap (λ (n : ℕ). n * apart) (two-pow-pred (S .t) some))
 
-sub-join-eight : tie.Need-sub-join-eight Inv-loop μ-loop
-sub-join-eight c = omega arith
+  pub serves-eighths : (three : List ℕ) → three ≡ getD quarter 0 0 ∷ getD quarter ((length quarter - 1) / 2) 0 ∷ getD quarter (length quarter - 1) 0 ∷ [] → (h : ℤ) → h ≡ half → Serves s h 3 three
+  serves-eighths three e h eh = record { scale = rw eh (S .scale); t = 1; most = omega arith; enough = omega arith; at-quarter = e ∙ eighths }
 
-part-join-eight-start : tie.Need-part-join-eight-start Inv-loop μ-loop
-part-join-eight-start c = let h = inside c in omega (arith, h, c .before .loop .inv .long)
+sub-last : tie.Need-sub-last
+sub-last c = omega (arith, entries-many (c .before .pre .table))
 
-part-join-eight-end : tie.Need-part-join-eight-end Inv-loop μ-loop
-part-join-eight-end c = let h = inside c in omega (arith, h, c .before .loop .inv .long)
+shared-slice-read-t9 : tie.Need-shared-slice-read-t9
+shared-slice-read-t9 c = omega (arith, entries-many (c .before .before .pre .table))
 
-join-eight-requires : tie.Need-join-eight-requires Inv-loop μ-loop
-join-eight-requires c κs = let i = c .before in let l = i .before .loop in let s = start i in let d = s .args .digits in
-    (next-long d 3 (l .inv) (l .base + 8) refl (inside i), next-ready d 3 (l .inv) (l .base + 8) refl (inside i) (s .pre) (omega arith) _ (toZ-ofZ (s .fits .half)))
+mul-t10 : tie.Need-mul-t10
+mul-t10 c = search needs
 
-loop-less : tie.Need-loop-less Inv-loop μ-loop
-loop-less c = let h = inside (round c) in omega (arith, h)
+shared-slice-read-t12 : tie.Need-shared-slice-read-t12
+shared-slice-read-t12 c = omega (arith, entries-many (c .before .before .before .pre .table))
 
-loop-again : tie.Need-loop-again Inv-loop μ-loop
-loop-again c = let i = round c in let l = i .before .loop in block-done (start i .args .digits) 3 (l .inv) (l .base + 8) refl (inside i) _ (c .before .join-eight .ensures)
+mul-t13 : tie.Need-mul-t13
+mul-t13 c = search needs
 
-same-length : tie.Need-same-length Inv-loop μ-loop
-same-length c = c .before .loop .inv .long
+shared-slice-read-t15 : tie.Need-shared-slice-read-t15
+shared-slice-read-t15 c = omega (arith, entries-many (c .before .before .before .before .pre .table))
 
-returns : tie.Need-returns Inv-loop μ-loop
-returns c = let l = c .before .loop in let s = c .before .before .before in blocks-done (s .args .digits) 3 (l .inv) (omega (arith, l .inv .long, c .loop-test .left))
+slice-aggregate-join-eights : tie.Need-slice-aggregate-join-eights
+slice-aggregate-join-eights c = search needs
+
+join-eights-requires : tie.Need-join-eights-requires
+join-eights-requires c κs = let t = c .before .before .before .before .before .before in record { table = serves-eighths (t .pre .table) _ refl _ (toZ-ofZ (t .fits .half)); whole = t .pre .whole; room = t .pre .room }
+
+same-length : tie.Need-same-length
+same-length c = search needs
+
+returns : tie.Need-returns
+returns c = search needs
 
 pub join-first-levels-spec : {M : Type 1} → statement M
 join-first-levels-spec =
     tie.close
     (tie.spec
-    Inv-loop
-    μ-loop
-    loop-holds
-    add-end
-    mul-join-eight
-    sub-join-eight
-    part-join-eight-start
-    part-join-eight-end
-    join-eight-requires
-    loop-less
-    loop-again
+    sub-last
+    shared-slice-read-t9
+    mul-t10
+    shared-slice-read-t12
+    mul-t13
+    shared-slice-read-t15
+    slice-aggregate-join-eights
+    join-eights-requires
     same-length
     returns)

@@ -1,6 +1,6 @@
--- `join_levels` is right because a block of four cells has levels 1 and 2 alone, and a larger one the first three and those after them.
+-- `join_levels` is right because the first three levels and those after them are all.
 use borrow.Author.Needs.{needs}
-use mathlib.Core.Path.{_≡_, refl, sym, _∙_, ap, subst}
+use mathlib.Core.Path.{_≡_, refl, sym, _∙_, ap}
 use mathlib.Core.List.{List}
 use Prim.Native.Nat.{ℕ, _+_, _*_, _-_, _%_, _^_, _≤_, _<_}
 use native.Mathlib.Nat.{mul-mod-left}
@@ -40,41 +40,21 @@ later-ready {s} {half} {P} {quarter} {xs} {ys} R long least e h eh = record {
   ready = ready-fewer R long P (omega arith) h eh;
 }
 
--- ---- where the calls stand: after the first levels, and the function's start
-
+-- after the first levels
 abbrev start : tie.After-join-first-levels → tie.Start
-start c = c .before .before .before .before
-
-join-four-requires : tie.Need-join-four-requires
-join-four-requires c κs = let t = c .before .before .before in let two : t .args .p ≡ 2 = omega arith in
-    (t .pre .1 ∙ ap (λ (k : ℕ). 2 ^ k) two, ready-fewer (t .pre .2) (t .pre .1) 2 (t .pre .0) _ (toZ-ofZ (t .fits .half)))
+start c = c .before .before .before
 
 join-first-levels-requires : tie.Need-join-first-levels-requires
-join-first-levels-requires c κs = let t = c .before .before .before in ready-fewer (t .pre .2) (t .pre .1) 3 (omega (arith, t .pre .0)) _ (toZ-ofZ (t .fits .half))
+join-first-levels-requires c κs = let t = c .before .before in ready-fewer (t .pre .2) (t .pre .1) 3 (t .pre .0) _ (toZ-ofZ (t .fits .half))
 
 join-later-levels-requires : tie.Need-join-later-levels-requires
-join-later-levels-requires c κs = let f = c .before .before in let t = start f in later-ready (t .pre .2) (t .pre .1) (omega (arith, t .pre .0)) (f .join-first-levels .ensures) _ (toZ-ofZ (t .fits .half))
+join-later-levels-requires c κs = let f = c .before .before in let t = start f in later-ready (t .pre .2) (t .pre .1) (t .pre .0) (f .join-first-levels .ensures) _ (toZ-ofZ (t .fits .half))
 
 same-length : tie.Need-same-length
 same-length c = search needs
 
 returns : tie.Need-returns
-returns c = let t = c .before .before .before .before .before in let two : 2 ≡ t .args .p = omega arith in c .before .join-four .ensures ∙ ap (λ (L : ℕ). levelsAt (t .args .digits) L (now (t .args .cells))) two
-
-same-length-2 : tie.Need-same-length-2
-same-length-2 c = search needs
-
-returns-2 : tie.Need-returns-2
-returns-2 c = let f = c .before .before .before .before in let t = start f in c .before .join-later-levels .ensures (now (t .args .cells)) (f .join-first-levels .ensures)
+returns c = let f = c .before .before .before .before in let t = start f in c .before .join-later-levels .ensures (now (t .args .cells)) (f .join-first-levels .ensures)
 
 pub join-levels-spec : {M : Type 1} → statement M
-join-levels-spec =
-    tie.close
-    (tie.spec
-    join-four-requires
-    join-first-levels-requires
-    join-later-levels-requires
-    same-length
-    returns
-    same-length-2
-    returns-2)
+join-levels-spec = tie.close (tie.spec join-first-levels-requires join-later-levels-requires same-length returns)

@@ -8,7 +8,7 @@ use Rattle.levels.proofs.join_two.Statement.{statement}
 use Rattle.levels.proofs.join_two.Tie as tie
 
 join-plain-requires : tie.Need-join-plain-requires
-join-plain-requires c κs = let p = c .before .pre in (p .0, omega arith, p .1 0, p .1 1)
+join-plain-requires c κs = let p = c .before .pre in (p .0, omega arith, omega (arith, p .1 0), omega (arith, p .1 1))
 
 same-length : tie.Need-same-length
 same-length c = search needs
