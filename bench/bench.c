@@ -1,7 +1,11 @@
 /*
  * Times the archive and the listing program against the same rules in C, and forward and backward also against FFTW's
- * DHT where it is installed. Prints tables in Markdown. Usage: bench FOLDER LIST LISTER EMPTY: a folder for traces, the
- * listing program, the one in C and a program that does nothing.
+ * DHT where it is installed. Prints tables in Markdown. Usage:
+ *   bench FOLDER LIST LISTER EMPTY: times all; a folder for traces, the listing program, the one in C and a program that
+ *     does nothing.
+ *   bench calls forward|backward archive|C P TIMES: calls one contender so many times and prints nothing, for a count of
+ *     its instructions.
+ *   bench trace P FILE: writes the longest trace with blocks of that P.
  */
 #define _POSIX_C_SOURCE 200809L
 
@@ -253,7 +257,30 @@ static void expect_near(double distance)
             fail("FFTW and the rule in C differ");
 }
 
-/* One direction for all lengths: random samples forward, or their spectrum backward. */
+/* A fresh block of 2^p cells: random samples for forward, or their spectrum for backward. */
+static void set_block(size_t p, int forward)
+{
+    n = (size_t)1 << p;
+    for (size_t t = 0; t < n; t++)
+        set_fresh(t, (int64_t)noise() - 32768);
+    if (!forward) {
+        rule_c_forward();
+        for (size_t v = 0; v < n; v++)
+            set_fresh(v, warm_cells[v]);
+    }
+}
+
+/* Calls one contender so many times. */
+static void call_only(const char *direction, const char *side, size_t p, long times)
+{
+    int forward = strcmp(direction, "forward") == 0, archive = strcmp(side, "archive") == 0;
+    void (*call)(void) = forward ? archive ? archive_forward : rule_c_forward : archive ? archive_backward : rule_c_backward;
+    set_block(p, forward);
+    for (long i = 0; i < times; i++)
+        call();
+}
+
+/* One direction for all lengths. */
 static void time_direction(int forward)
 {
     static const double E[] = {0, 0, 0, 5, 22, 72, 213, 598, 1624, 4317, 11306};    /* the papers' bound, for P from 0 */
@@ -265,15 +292,8 @@ static void time_direction(int forward)
             {.call = forward ? rule_c_forward : rule_c_backward},
             {.call = forward ? fftw_forward : fftw_backward},
         };
-        n = (size_t)1 << p;
+        set_block(p, forward);
         make_plan();
-        for (size_t t = 0; t < n; t++)
-            set_fresh(t, (int64_t)noise() - 32768);
-        if (!forward) {
-            rule_c_forward();
-            for (size_t v = 0; v < n; v++)
-                set_fresh(v, warm_cells[v]);
-        }
         for (int i = 0; i < 4; i++)
             list[i].call();
         expect_same(warm_bytes, warm_cells, n);
@@ -426,11 +446,11 @@ static void run_empty(void)
     run(empty_program, "/dev/null");
 }
 
-static void write_trace(void)
+static void write_trace(const char *path)
 {
-    FILE *file = fopen(trace_path, "wb");
+    FILE *file = fopen(path, "wb");
     if (file == NULL || fwrite(trace, 1, trace_bytes, file) != trace_bytes || fclose(file) != 0)
-        fail(trace_path);
+        fail(path);
 }
 
 /* Both programs print the same text; answers its bytes. */
@@ -460,7 +480,7 @@ static void time_listings(void)
         for (size_t bytes = 4096; bytes <= LONGEST; bytes *= 2) {
             struct contender list[4] = {{.call = run_list}, {.call = run_list}, {.call = run_lister}, {.call = run_empty}};
             make_trace(bytes, digits);
-            write_trace();
+            write_trace(trace_path);
             size_t printed = same_text();
             measure(list, 4);
             printf("| %zu | %zu | %d | %zu |", digits, bytes, (int)(rule_check(trace, trace_bytes) / 65536 % 65536), printed);
@@ -474,15 +494,24 @@ static void time_listings(void)
 
 int main(int count, char **words)
 {
+    rule_tables();
+    if (count == 6 && strcmp(words[1], "calls") == 0) {
+        call_only(words[2], words[3], (size_t)atoi(words[4]), atol(words[5]));
+        return 0;
+    }
+    if (count == 4 && strcmp(words[1], "trace") == 0) {
+        make_trace(LONGEST, (size_t)atoi(words[2]));
+        write_trace(words[3]);
+        return 0;
+    }
     if (count != 5)
-        fail("usage: bench FOLDER LIST LISTER EMPTY");
+        fail("usage: bench FOLDER LIST LISTER EMPTY | bench calls forward|backward archive|C P TIMES | bench trace P FILE");
     snprintf(trace_path, sizeof trace_path, "%s/trace", words[1]);
     snprintf(text_path[0], sizeof text_path[0], "%s/text_0", words[1]);
     snprintf(text_path[1], sizeof text_path[1], "%s/text_1", words[1]);
     list_program = words[2];
     lister_program = words[3];
     empty_program = words[4];
-    rule_tables();
     time_blocks();
     time_power();
     time_checks();

@@ -27,12 +27,25 @@ pub fn forward(bytes: &mut [u8]) -> u64
 {
     let samples = cell_bytes::cell_count(CELL * BlockKind::LARGEST, bytes.len());
     if samples <= SMALL {
-        return forward_small(bytes, samples);
+        return forward_short(bytes, samples);
     }
     if samples <= MIDDLE {
         return forward_middle(bytes, samples);
     }
     forward_large(bytes, samples)
+}
+
+// Forward of few cells. The lengths that blocks have are named, so that the compiler works such a block in registers.
+fn forward_short(bytes: &mut [u8], samples: usize) -> u64
+    requires { ⌜ (samples ≡ cellCount (CELL * LARGEST) (length (now bytes))) × (samples ≤ SMALL) ⌝ }
+    ensures { λ r. ⌜ ForwardAnswered (now (bytes .entry)) (now (bytes .exit)) r ⌝ }
+{
+    match samples {
+        2 => forward_small(bytes, 2),
+        4 => forward_small(bytes, 4),
+        8 => forward_small(bytes, 8),
+        _ => forward_small(bytes, samples),
+    }
 }
 
 // Forward in a small room, which decoding fills from its front on.
@@ -82,12 +95,25 @@ pub fn backward(bytes: &mut [u8]) -> u64
 {
     let lines = cell_bytes::cell_count(CELL * BlockKind::LARGEST, bytes.len());
     if lines <= SMALL {
-        return backward_small(bytes, lines);
+        return backward_short(bytes, lines);
     }
     if lines <= MIDDLE {
         return backward_middle(bytes, lines);
     }
     backward_large(bytes, lines)
+}
+
+// Backward of few cells. The lengths that blocks have are named, so that the compiler works such a block in registers.
+fn backward_short(bytes: &mut [u8], lines: usize) -> u64
+    requires { ⌜ (lines ≡ cellCount (CELL * LARGEST) (length (now bytes))) × (lines ≤ SMALL) ⌝ }
+    ensures { λ r. ⌜ BackwardAnswered (now (bytes .entry)) (now (bytes .exit)) r ⌝ }
+{
+    match lines {
+        2 => backward_small(bytes, 2),
+        4 => backward_small(bytes, 4),
+        8 => backward_small(bytes, 8),
+        _ => backward_small(bytes, lines),
+    }
 }
 
 // Backward in a small room, which decoding fills from its front on.

@@ -10,14 +10,14 @@ mul-cell-count c = search needs
 cell-count-requires : tie.Need-cell-count-requires
 cell-count-requires c κs = tt
 
-backward-small-requires : tie.Need-backward-small-requires
-backward-small-requires c κs = (omega (arith, c .before .before .cell-count .ensures .0), omega arith)
+backward-short-requires : tie.Need-backward-short-requires
+backward-short-requires c κs = (omega (arith, c .before .before .cell-count .ensures .0), omega arith)
 
 same-length : tie.Need-same-length
-same-length c = c .before .before .backward-small .kept .0
+same-length c = c .before .before .backward-short .kept .0
 
 returns : tie.Need-returns
-returns c = c .before .before .backward-small .ensures
+returns c = c .before .before .backward-short .ensures
 
 backward-middle-requires : tie.Need-backward-middle-requires
 backward-middle-requires c κs = (omega (arith, c .before .before .before .cell-count .ensures .0), omega arith)
@@ -43,7 +43,7 @@ backward-spec =
     (tie.spec
     mul-cell-count
     cell-count-requires
-    backward-small-requires
+    backward-short-requires
     same-length
     returns
     backward-middle-requires

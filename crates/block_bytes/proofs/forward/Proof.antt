@@ -10,14 +10,14 @@ mul-cell-count c = search needs
 cell-count-requires : tie.Need-cell-count-requires
 cell-count-requires c κs = tt
 
-forward-small-requires : tie.Need-forward-small-requires
-forward-small-requires c κs = (omega (arith, c .before .before .cell-count .ensures .0), omega arith)
+forward-short-requires : tie.Need-forward-short-requires
+forward-short-requires c κs = (omega (arith, c .before .before .cell-count .ensures .0), omega arith)
 
 same-length : tie.Need-same-length
-same-length c = c .before .before .forward-small .kept .0
+same-length c = c .before .before .forward-short .kept .0
 
 returns : tie.Need-returns
-returns c = c .before .before .forward-small .ensures
+returns c = c .before .before .forward-short .ensures
 
 forward-middle-requires : tie.Need-forward-middle-requires
 forward-middle-requires c κs = (omega (arith, c .before .before .before .cell-count .ensures .0), omega arith)
@@ -43,7 +43,7 @@ forward-spec =
     (tie.spec
     mul-cell-count
     cell-count-requires
-    forward-small-requires
+    forward-short-requires
     same-length
     returns
     forward-middle-requires
