@@ -6,7 +6,7 @@ use mathlib.Core.Bool.{Bool, true, false, cond, not, _||_, true≢false}
 use mathlib.Core.List.{List, [], _∷_}
 use Prim.Native.Nat.{ℕ, zero, suc, _+_, _/_, _≤_}
 use native.Mathlib.Omega.{arith}
-use borrow.Author.Tests.{eqb-true, eq-eqb, le-ltb, ltb-false}
+use borrow.Author.Tests.{eqb-true, le-ltb, ltb-false}
 use lib.Dec.{eqb, ltb}
 use lib.IntN.{ℤ, pos, negℤ, natAbs}
 use lib.ListN.{length}
@@ -74,10 +74,6 @@ output-fits wanted n ns e = go (eqb n wanted) refl e
     go : (t : Bool) → eqb n wanted ≡ t → (not t || misfit wanted ns) ≡ false → (n ≡ wanted) × (misfit wanted ns ≡ false)
     go true f e = (eqb-true n wanted f, e)
     go false f e = absurd (true≢false e)
-
-pub output-more : (wanted n : ℕ) (ns : List ℕ) → n ≡ wanted → misfit wanted ns ≡ false → misfit wanted (n ∷ ns) ≡ false
-unfolding misfit
-output-more wanted n ns e h = rw (eq-eqb n wanted e) h
 
 pub output-none : (wanted : ℕ) → misfit wanted [] ≡ false
 unfolding misfit

@@ -84,9 +84,3 @@ module _ (s : ℕ) (fits : s < 60) where
 
   pub entry-size : (j : ℕ) → j ≤ 256 → quarterTable s j ≤ 2 ^ s
   entry-size j h = rw table-is (at-most (2 ^ (59 - s)) (pow-pos (59 - s)) (fine j) (2 ^ s) (rw scale (quarter-size j h .alone)))
-
-  pub table-cosine-size : (j : ℕ) → natAbs (cosine (quarterTable s) j) ≤ 2 ^ s
-  table-cosine-size = over-cosine (quarterTable s) fine (λ t f. natAbs t ≤ 2 ^ s) (λ t f h. rw abs-neg h) entry-size
-
-  pub table-sine-size : (j : ℕ) → natAbs (sine (quarterTable s) j) ≤ 2 ^ s
-  table-sine-size = over-sine (quarterTable s) fine (λ t f. natAbs t ≤ 2 ^ s) (λ t f h. rw abs-neg h) entry-size

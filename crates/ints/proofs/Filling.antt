@@ -2,7 +2,7 @@
 -- Example: `filled-next d f xs n x h e F : Filled d f (n + 1) (set xs n x)`, with h : n < length xs, e : x ≡ f n and F : Filled d f n xs.
 use mathlib.Core.Path.{_≡_, sym, _∙_, subst}
 use mathlib.Core.List.{List}
-use Prim.Native.Nat.{ℕ, _+_, _≤_, _<_}
+use Prim.Native.Nat.{ℕ, _+_, _<_}
 use native.Mathlib.Nat.{lt-irrefl}
 use native.Mathlib.Omega.{arith}
 use borrow.Author.Count.{below-more}
@@ -26,10 +26,6 @@ module _ {A : Type 0} (d : A) (f : ℕ → A) where
   -- the same where the entry that is set is k and the next one is m
   pub filled-then : (xs : List A) (n k m : ℕ) (x : A) → n < length xs → x ≡ f n → k ≡ n → m ≡ n + 1 → Filled d f n xs → Filled d f m (set xs k x)
   filled-then xs n k m x h e ek em F = rw (ek, em) (filled-next xs n x h e F)
-
-  -- an entry further on does not matter
-  pub filled-still : (xs : List A) (n k : ℕ) (x : A) → n ≤ k → Filled d f n xs → Filled d f n (set xs k x)
-  filled-still xs n k x h F i l = other xs k x i (omega arith) ∙ F i l
 
   pub filled-all : (xs : List A) (n : ℕ) → length xs ≡ n → Filled d f n xs → xs ≡ tabulate n f
   filled-all xs n e F = ext-getD d xs (tabulate n f) (e ∙ sym (length-tabulate n f)) (λ i h. let k : i < n = omega arith in F i k ∙ sym (getD-tabulate n f d i k))

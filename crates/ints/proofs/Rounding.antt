@@ -4,7 +4,7 @@ use mathlib.Core.Path.{_≡_, refl, sym, _∙_, ap}
 use mathlib.Core.Bool.{Bool, true, false, not}
 use mathlib.Core.List.{[], _∷_}
 use Prim.Native.Nat.{ℕ, zero, suc, _+_, _-_, _*_, _/_, _%_, _≤_, _<_}
-use native.Mathlib.Nat.{mod-lt, div-add-mod, add-zero, mul-le-mul-left, div-one, div-lt-iff-lt-mul, add-div-right, div-eq-of-lt, div-eq-of-eq-mul-right, div-div-eq-div-mul, mul-comm}
+use native.Mathlib.Nat.{mod-lt, div-add-mod, mul-le-mul-left, div-lt-iff-lt-mul, add-div-right, div-eq-of-lt, div-eq-of-eq-mul-right}
 use native.Mathlib.Omega.{arith}
 use lib.Dec.{T, ltb, ltb→lt, nltb→le}
 use lib.IntN.{ℤ, pos, negsuc, negℤ, natAbs, negℤ-negℤ, _+ℤ_, _-ℤ_, _*ℤ_}
@@ -156,20 +156,3 @@ rounded-by-floor h z (negsuc n) = rw (by-half h (suc n)) (go (ltb (suc n) h) (lt
         ∙ ap pos (div-eq-of-lt {n = h - suc n - 1} {m = 2 * h} (omega arith)) ∙ sym (ap (λ (q : ℕ). negℤ (pos q)) (div-eq-of-lt {n = suc n + h} {m = 2 * h} (omega arith)))
     go false near far = let k = far tt in let up : suc n - h + 2 * h ≡ suc n + h = omega arith in
         ap (λ (y : ℤ). shrZ y (2 * h)) (large (suc n) (suc n - h) (omega arith)) ∙ ap (λ (q : ℕ). negℤ (pos q)) (more (suc n - h) ∙ ap (λ (m : ℕ). m / (2 * h)) up)
-
--- ---- as the machine has it: so many halves of the divisor, of which two make one, and so does a last one alone
-
-pub size-by-halves : (h : ℕ) → zero < h → (n : ℕ) → (n / h + 1) / 2 ≡ (n + h) / (2 * h)
-size-by-halves h z n = ap (λ (m : ℕ). m / 2) (sym (add-div-right n z)) ∙ div-div-eq-div-mul (n + h) h 2 ∙ ap (λ (d : ℕ). (n + h) / d) (mul-comm h 2)
-
--- ---- the divisors that no shift reaches: 1, and those above twice the size of x
-
-pub rounded-by-one : (x : ℤ) → rounded 1 x ≡ x
-unfolding rounded
-rounded-by-one (pos n) = ap pos (div-one (n + 0) ∙ add-zero n)
-rounded-by-one (negsuc n) = ap (λ (q : ℕ). negℤ (pos q)) (div-one (suc n + 0) ∙ add-zero (suc n))
-
-pub rounded-small : (h : ℕ) (x : ℤ) → natAbs x < h → rounded (2 * h) x ≡ pos 0
-unfolding rounded
-rounded-small h (pos n) k = rw (by-half h n) (ap pos (div-eq-of-lt (omega arith)))
-rounded-small h (negsuc n) k = rw (by-half h (suc n)) (ap (λ (q : ℕ). negℤ (pos q)) (div-eq-of-lt {n = suc n + h} {m = 2 * h} (omega arith)))

@@ -21,10 +21,6 @@ module _ {A : Type 0} where
   unfolding written
   written-one xs at y h = set-split xs at y h ∙ ap (λ (k : ℕ). take at xs ++ (y ∷ drop k xs)) (sym (add-one at))
 
-  pub length-written : (xs : List A) (at : ℕ) (ys : List A) → at + length ys ≤ length xs → length (written xs at ys) ≡ length xs
-  unfolding written
-  length-written xs at ys h = simp (length-append, length-take, length-drop) (omega arith)
-
   -- it reaches as far as what is written
   pub written-reaches : (xs : List A) (at : ℕ) (ys : List A) → at ≤ length xs → at + length ys ≤ length (written xs at ys)
   unfolding written

@@ -1,8 +1,8 @@
 -- Levels on whole blocks of cells: what they do to a block among others they do to it alone, and a block is ready where all of them are.
-use mathlib.Core.Path.{_≡_, refl, sym, _∙_, ap}
+use mathlib.Core.Path.{_≡_, sym, _∙_, ap}
 use mathlib.Core.List.{List}
-use Prim.Native.Nat.{ℕ, suc, _+_, _*_, _-_, _/_, _%_, _^_, _≤_, _<_}
-use native.Mathlib.Nat.{mul-le-mul-left, mod-self, mul-assoc, zero-mul, zero-add, one-mul}
+use Prim.Native.Nat.{ℕ, suc, _+_, _*_, _-_, _/_, _^_, _≤_, _<_}
+use native.Mathlib.Nat.{mul-le-mul-left, mod-self, mul-assoc, zero-mul, zero-add}
 use native.Mathlib.Omega.{arith}
 use lib.IntN.{ℤ, pos, natAbs}
 use lib.ListN.{length}
@@ -11,13 +11,12 @@ use Rattle.ints.specs.Cells.{cell}
 use Rattle.ints.specs.Quotient.{rounded}
 use Rattle.ints.specs.Tabulate.{tabulate}
 use Rattle.ints.proofs.Filling.{filled-all}
-use Rattle.ints.proofs.Powers.{two-pow}
 use Rattle.ints.proofs.Slices.{everywhere}
 use Rattle.ints.proofs.Tables.{getD-tabulate, length-tabulate}
 use Rattle.cosine.specs.Cosine.{quarterTable}
 use Rattle.spectrum.specs.Levels.{level, levels}
 use Rattle.spectrum.specs.Limits.{Room}
-use Rattle.spectrum.specs.Spectrum.{tableCosine, tableSine, lineAt, joinedAt, levelAt, levelsAt}
+use Rattle.spectrum.specs.Spectrum.{tableCosine, tableSine, joinedAt, levelAt, levelsAt}
 use Rattle.spectrum.proofs.Pairs.{in-pair}
 use Rattle.spectrum.proofs.Stages.{length-level, length-levels, level-cell, levels-within, joined-within}
 use Rattle.pair.specs.Pair.{Joinable, joinedPair, pairLine}

@@ -1,7 +1,7 @@
 -- Cells that are worked part by part, from the front on: what is done to each part of w cells makes up what is done to all of them. F is what is done, a
 -- level or some levels, and `within` says that it does to a part what it does to those cells of a longer list.
 use mathlib.Core.Path.{_≡_, refl, sym, _∙_, ap}
-use mathlib.Core.List.{List, _++_}
+use mathlib.Core.List.{List}
 use Prim.Native.Nat.{ℕ, _+_, _*_, _-_, _/_, _%_, _≤_, _<_}
 use native.Mathlib.Nat.{mul-le-mul-right, lt-of-mul-lt-mul-right, div-add-mod', add-mod-right, zero-mod, not-suc-le-zero}
 use native.Mathlib.Omega.{arith}

@@ -1,9 +1,9 @@
 -- Level 1: halves of one cell, whose two lines are the sum and the difference, at every scale.
 use mathlib.Core.Path.{_≡_, refl, sym, _∙_, ap, subst}
 use mathlib.Core.List.{List, [], _∷_}
-use Prim.Native.Nat.{ℕ, zero, suc, _+_, _*_, _-_, _/_, _%_, _^_, _≤_, _<_}
+use Prim.Native.Nat.{ℕ, zero, suc, _+_, _*_, _/_, _%_, _^_, _≤_, _<_}
 use native.Mathlib.Omega.{arith}
-use lib.IntN.{ℤ, pos, negℤ, natAbs, _+ℤ_, _-ℤ_, _*ℤ_}
+use lib.IntN.{ℤ, pos, negℤ, natAbs, _+ℤ_, _-ℤ_}
 use lib.ListN.{length}
 use lib.Pow.{pow-pos}
 use lib.Seq.{ext-getD}
@@ -17,7 +17,7 @@ use Rattle.cosine.specs.Cosine.{quarterTable}
 use Rattle.cosine.proofs.Turn.{cosine-half, sine-half}
 use Rattle.cosine.proofs.TableNear.{table-end}
 use Rattle.spectrum.specs.Levels.{levels}
-use Rattle.spectrum.specs.Spectrum.{tableCosine, tableSine, levelAt, levelsAt}
+use Rattle.spectrum.specs.Spectrum.{tableCosine, tableSine, levelsAt}
 use Rattle.spectrum.proofs.Pairs.{first-half, second-half}
 use Rattle.pair.specs.Pair.{joinedPair, pairLine, split}
 use Rattle.pair.proofs.Lines.{plain-start}

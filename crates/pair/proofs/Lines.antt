@@ -1,6 +1,6 @@
 -- What the lines of one pair of halves are, where the first half begins at cell 0 of x and the second at cell n: since the rounding is odd, lines v and
 -- n + v are x(v) plus and minus one quotient; that of line n − v has the same two cells, with cosine and sine exchanged and the cosine's sign changed.
-use mathlib.Core.Path.{_≡_, refl, sym, _∙_, ap, ap₂}
+use mathlib.Core.Path.{_≡_, _∙_, ap, ap₂}
 use mathlib.Core.List.{[], _∷_}
 use Prim.Native.Nat.{ℕ, _+_, _*_, _-_, _%_, _^_, _≤_, _<_}
 use native.Mathlib.Nat.{mod-eq-of-lt, mul-le-mul-right, zero-mul}

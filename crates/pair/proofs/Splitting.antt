@@ -1,8 +1,8 @@
 -- Cells that can be multiplied, and the two cells that one step writes.
 -- Example: `split-other xs n v q i h k : cell (split xs n v q) i ≡ cell xs i`, with h : i ≡ v → ⊥ and k : i ≡ n + v → ⊥.
-use mathlib.Core.Path.{_≡_, refl, sym, _∙_, ap}
+use mathlib.Core.Path.{_≡_, refl, _∙_}
 use mathlib.Core.List.{List}
-use Prim.Native.Nat.{ℕ, _+_, _*_, _-_, _^_, _≤_, _<_}
+use Prim.Native.Nat.{ℕ, _+_, _*_, _≤_, _<_}
 use native.Mathlib.Nat.{mul-le-mul-left}
 use native.Mathlib.Omega.{arith}
 use lib.IntN.{ℤ, pos, natAbs, _+ℤ_, _-ℤ_}

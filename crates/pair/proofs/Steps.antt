@@ -15,7 +15,7 @@ use Rattle.cosine.specs.Cosine.{quarterTable}
 use Rattle.cosine.proofs.TableNear.{entry-size}
 use Rattle.ints.specs.Cells.{cell}
 use Rattle.spectrum.specs.Limits.{LARGEST-PRODUCT}
-use Rattle.pair.specs.Pair.{Scale, Quad, Joinable, joinedPair, pairLine, quadded, split, turned}
+use Rattle.pair.specs.Pair.{Quad, Joinable, joinedPair, pairLine, quadded, split, turned}
 use Rattle.pair.proofs.Splitting.{room-small, small-back, split-other}
 use Rattle.pair.proofs.Lines.{Q, line-first, line-second, Q-zero, Q-middle, Q-line, Q-mirror}
 use Rattle.pair.proofs.Joining.{Both, Joined, none-joined, joined-next, joined-all, middle-still}

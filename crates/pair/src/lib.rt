@@ -1,7 +1,7 @@
 // One pair of neighbouring halves joined in its own cells (document 01, Levels 2): four lines at a time, from the same four cells, by the quarter's
 // cosines alone, at a scale 2^digits.
 ghost use mathlib.Core.Path.{_≡_};
-ghost use Prim.Native.Nat.{ℕ, _+_, _*_, _-_, _/_, _≤_, _<_};
+ghost use Prim.Native.Nat.{_+_, _*_, _-_, _/_, _≤_, _<_};
 ghost use lib.IntN.{pos, natAbs, _+ℤ_, _*ℤ_};
 ghost use lib.ListN.{length};
 ghost use Rattle.ints.specs.Cells.{cell};

@@ -1,13 +1,13 @@
 -- The permutation four places at a time. The places of a block of 4 M cells are, for u below M, 2u and 2M + 2u + 1, whose partners are of the same sort,
 -- and 2u + 1 and 2M + 2u, whose partners are of each other's. The partner of u is ρ u, which is u with its digits reversed.
-use mathlib.Core.Path.{_≡_, refl, sym, _∙_, ap, ap₂, subst}
+use mathlib.Core.Path.{_≡_, refl, sym, _∙_, ap, ap₂}
 use mathlib.Core.Bool.{Bool, true, false, not, cond}
 use mathlib.Core.List.{List}
 use Prim.Native.Nat.{ℕ, zero, suc, _+_, _*_, _-_, _/_, _%_, _^_, _≤_, _<_}
 use native.Mathlib.Omega.{arith}
 use lib.Dec.{T, ltb, ltb→lt, nltb→le}
 use lib.IntN.{ℤ, pos}
-use lib.ListN.{length, set, length-set}
+use lib.ListN.{length, length-set}
 use Rattle.ints.proofs.Powers.{two-pow}
 use Rattle.ints.proofs.Filling.{filled-all}
 use Rattle.ints.specs.Cells.{cell}

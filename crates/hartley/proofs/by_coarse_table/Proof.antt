@@ -1,6 +1,6 @@
 -- `by_coarse_table` is right because the table has the entries that blocks of up to 64 cells need.
 use borrow.Author.Needs.{needs}
-use mathlib.Core.Path.{_≡_, refl}
+use mathlib.Core.Path.{refl}
 use native.Mathlib.Omega.{arith}
 use Rattle.hartley.proofs.Tables.{levels-ready, coarse-table}
 use Rattle.hartley.proofs.by_coarse_table.Statement.{statement}

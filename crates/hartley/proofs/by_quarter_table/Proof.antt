@@ -1,6 +1,6 @@
 -- `by_quarter_table` is right because the table has every entry that a block needs.
 use borrow.Author.Needs.{needs}
-use mathlib.Core.Path.{_≡_, refl}
+use mathlib.Core.Path.{refl}
 use native.Mathlib.Omega.{arith}
 use Rattle.hartley.proofs.Tables.{levels-ready, whole-table}
 use Rattle.hartley.proofs.by_quarter_table.Statement.{statement}

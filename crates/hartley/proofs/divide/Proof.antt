@@ -14,7 +14,6 @@ use mir.Facts.{toZ-ofZ}
 use mir.Syntax.{w64}
 use mir.Val.{SFits, toZ, ofZ}
 use mir.ValLaws.{toZ-pos}
-use denote.Ref.{now}
 use Rattle.ints.specs.Cells.{cell}
 use Rattle.ints.specs.Quotient.{Halved, rounded}
 use Rattle.ints.proofs.Filling.{Filled, filled-next}

@@ -1,15 +1,13 @@
 -- `transform_short` is right because two cells stay where they are, of four the middle two change places, and their levels are the same at every scale.
 use borrow.Author.Needs.{needs}
-use mathlib.Core.Path.{_≡_, refl, sym, _∙_, ap}
+use mathlib.Core.Path.{_≡_, sym, _∙_, ap}
 use mathlib.Core.List.{List}
-use Prim.Native.Nat.{ℕ, _*_, _^_, _≤_, _<_}
+use Prim.Native.Nat.{ℕ, _^_}
 use native.Mathlib.Omega.{arith}
-use lib.IntN.{ℤ, natAbs}
+use lib.IntN.{ℤ}
 use lib.ListN.{length}
 use denote.Ref.{now}
-use Rattle.ints.specs.Cells.{cell}
 use Rattle.kind.specs.BlockKinds.{SCALE-DIGITS}
-use Rattle.kind.specs.Loudness.{LOUDEST-LINE}
 use Rattle.block.specs.Transformable.{Transformable}
 use Rattle.spectrum.specs.Levels.{levels, permuted}
 use Rattle.spectrum.specs.Spectrum.{forward}

@@ -1,11 +1,8 @@
 -- `join_eight` is right because levels 1 and 2 of both fours are those of the eight, and their join is level 3.
 use borrow.Author.Needs.{needs}
 use mathlib.Core.Path.{_≡_}
-use mathlib.Core.List.{List}
-use Prim.Native.Nat.{ℕ, _-_, _/_, _^_, _≤_}
 use native.Mathlib.Omega.{arith}
-use lib.IntN.{ℤ}
-use lib.ListN.{length, take, drop}
+use lib.ListN.{take, drop}
 use mir.Facts.{toZ-ofZ}
 use borrow.Rule.Slice.PartMut.{putMid}
 use denote.Ref.{now}

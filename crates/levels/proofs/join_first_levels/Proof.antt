@@ -1,20 +1,18 @@
 -- `join_first_levels` is right because the quarter's ends and its middle are a table of three entries, and levels 1 to 3 need no other.
 use borrow.Author.Needs.{needs}
-use mathlib.Core.Path.{_≡_, refl, sym, _∙_, ap, ap₂}
+use mathlib.Core.Path.{_≡_, refl, _∙_, ap}
 use mathlib.Core.List.{List, [], _∷_}
-use Prim.Native.Nat.{ℕ, suc, _+_, _*_, _-_, _/_, _^_, _≤_, _<_}
+use Prim.Native.Nat.{ℕ, _+_, _*_, _-_, _/_, _^_, _≤_}
 use native.Mathlib.Nat.{zero-mul}
 use native.Mathlib.Omega.{arith}
 use lib.IntN.{ℤ}
 use lib.ListN.{length, getD}
-use lib.Pow.{pow-pos}
 use mir.Facts.{toZ-ofZ}
-use denote.Ref.{now}
 use Rattle.ints.specs.Tabulate.{tabulate}
 use Rattle.ints.proofs.Powers.{two-pow-pred}
 use Rattle.ints.proofs.Tables.{getD-tabulate}
 use Rattle.cosine.specs.Cosine.{quarterTable}
-use Rattle.levels.specs.Ready.{Ready, Serves}
+use Rattle.levels.specs.Ready.{Serves}
 use Rattle.levels.proofs.Blocks.{entries-many, quarter-turn}
 use Rattle.levels.proofs.join_first_levels.Statement.{statement}
 use Rattle.levels.proofs.join_first_levels.Tie as tie

@@ -1,11 +1,11 @@
 -- `join_four` is right because level 1 of both twos is that of the four, and of the joined four every line is plain (`four-joined`).
 use borrow.Author.Needs.{needs}
-use mathlib.Core.Path.{_≡_, refl, _∙_, ap}
+use mathlib.Core.Path.{_≡_, _∙_, ap}
 use mathlib.Core.List.{List}
-use Prim.Native.Nat.{ℕ, _*_, _≤_}
+use Prim.Native.Nat.{ℕ, _≤_}
 use native.Mathlib.Omega.{arith}
 use lib.IntN.{ℤ, natAbs}
-use lib.ListN.{length, take, drop}
+use lib.ListN.{length}
 use borrow.Rule.Slice.PartMut.{putMid}
 use denote.Ref.{now}
 use Rattle.ints.specs.Cells.{cell}
@@ -14,7 +14,7 @@ use Rattle.spectrum.specs.Spectrum.{levelsAt}
 use Rattle.pair.specs.Pair.{split}
 use Rattle.pair.proofs.Splitting.{split-long, split-other}
 use Rattle.pair.proofs.Steps.{four-joined}
-use Rattle.levels.specs.Ready.{LARGEST-FIRST, NoneAbove}
+use Rattle.levels.specs.Ready.{LARGEST-FIRST}
 use Rattle.levels.proofs.Twos.{first-level-small}
 use Rattle.levels.proofs.TwoBlocks.{first-long, first-small, second-long, second-small, both-long, two-done, two-joined}
 use Rattle.levels.proofs.join_four.Statement.{statement}

@@ -1,5 +1,5 @@
 -- `join_later_levels` is right because after each round the cells are those after one more level, and halves and stride fit the next one.
-use mathlib.Core.Path.{_≡_, refl, sym, _∙_, ap, subst}
+use mathlib.Core.Path.{_≡_, refl, sym, _∙_, ap}
 use mathlib.Core.Bool.{Bool, true, false, not}
 use mathlib.Core.List.{List}
 use Prim.Native.Nat.{ℕ, suc, _+_, _*_, _-_, _/_, _%_, _^_, _≤_, _<_}
@@ -14,7 +14,7 @@ use denote.Ref.{now}
 use Rattle.ints.proofs.Powers.{two-pow}
 use Rattle.spectrum.specs.Spectrum.{levelAt, levelsAt}
 use Rattle.levels.specs.Ready.{LaterReady, LevelReady}
-use Rattle.levels.proofs.Blocks.{entries-many, level-keeps, levels-keep, next-level, serves-fewer}
+use Rattle.levels.proofs.Blocks.{entries-many, level-keeps, next-level, serves-fewer}
 use Rattle.levels.proofs.join_later_levels.Statement.{statement}
 use Rattle.levels.proofs.join_later_levels.Tie as tie
 

@@ -1,6 +1,6 @@
 -- `join_two` is right because line 0 of halves of one cell is their sum and line 1 their difference (`two-joined`).
 use borrow.Author.Needs.{needs}
-use mathlib.Core.Path.{_≡_, _∙_}
+use mathlib.Core.Path.{_∙_}
 use native.Mathlib.Omega.{arith}
 use denote.Ref.{now}
 use Rattle.levels.proofs.Twos.{two-joined}

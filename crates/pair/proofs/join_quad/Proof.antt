@@ -1,11 +1,11 @@
 -- `join_quad` is right because both cells of the second half are read before one of the four is written, and the first step leaves cell n − v as it was.
 use borrow.Author.Needs.{needs}
-use mathlib.Core.Path.{_≡_, refl, sym, _∙_, ap, ap₂}
+use mathlib.Core.Path.{_≡_, refl, _∙_, ap, ap₂}
 use mathlib.Core.List.{List, [], _∷_}
 use Prim.Native.Nat.{ℕ, _+_, _-_, _*_, _^_, _≤_, _<_}
 use native.Mathlib.Nat.{le-trans, mul-le-mul-left}
 use native.Mathlib.Omega.{arith}
-use lib.IntN.{ℤ, pos, negℤ, natAbs, _+ℤ_, _-ℤ_, _*ℤ_}
+use lib.IntN.{ℤ, pos, negℤ, natAbs, _-ℤ_}
 use lib.ListN.{length}
 use lib.Pow.{pow-pos, pow-mono}
 use mir.Facts.{toZ-ofZ}
@@ -19,7 +19,7 @@ use Rattle.ints.proofs.Fit.{fits}
 use Rattle.ints.proofs.Rounding.{rounded-size}
 use Rattle.ints.specs.Cells.{cell}
 use Rattle.spectrum.specs.Limits.{LARGEST-PRODUCT, LARGEST-SUM, Room}
-use Rattle.pair.specs.Pair.{Quad, Scale, split, turned}
+use Rattle.pair.specs.Pair.{Scale, split, turned}
 use Rattle.pair.proofs.Splitting.{room-small, room-back, small-back, split-long, split-other}
 use Rattle.pair.proofs.join_quad.Statement.{statement}
 use Rattle.pair.proofs.join_quad.Tie as tie

@@ -1,7 +1,6 @@
 -- `sum_of_products` is right because both products are within their limit, so nothing overflows and the machine's sum is the exact one.
-use borrow.Author.Needs.{needs}
 use mathlib.Core.Path.{refl}
-use Prim.Native.Nat.{ℕ, _*_, _≤_}
+use Prim.Native.Nat.{_*_, _≤_}
 use native.Mathlib.Omega.{arith}
 use lib.IntN.{ℤ, _+ℤ_, _*ℤ_, natAbs}
 use mir.Facts.{toZ-ofZ}

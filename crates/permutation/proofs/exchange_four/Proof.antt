@@ -1,8 +1,8 @@
 -- `exchange_four` is right because its exchanges are those of the definition, in their order.
 use borrow.Author.Needs.{needs}
 use borrow.Author.Tests.{lt-ltb, le-ltb}
-use mathlib.Core.Path.{_≡_, _∙_, ap}
-use Prim.Native.Nat.{ℕ, _+_, _*_}
+use mathlib.Core.Path.{_∙_, ap}
+use Prim.Native.Nat.{_+_, _*_}
 use native.Mathlib.Omega.{arith}
 use Rattle.permutation.specs.Inner.{exchanged}
 use Rattle.permutation.proofs.exchange_four.Statement.{statement}
