@@ -55,6 +55,16 @@ module _ {s : ℕ} {half : ℤ} {stride : ℕ} {quarter : List ℕ} {xs : List �
   abbrev pub lines : ℕ → ℤ
   lines = pairLine s n (cell xs)
 
+  -- the rounded quotient of line v, and the two lines that have it
+  abbrev quotient : ℕ → ℤ
+  quotient = Q s (J .scale .least) (J .scale .most) k n g (J .some) two-halves quarter-turn (cell xs)
+
+  line-is : (v : ℕ) → v < n → lines v ≡ cell xs v +ℤ quotient v
+  line-is = line-first s (J .scale .least) (J .scale .most) k n g (J .some) two-halves quarter-turn (cell xs)
+
+  opposite-is : (v : ℕ) → v < n → lines (n + v) ≡ cell xs v -ℤ quotient v
+  opposite-is = line-second s (J .scale .least) (J .scale .most) k n g (J .some) two-halves quarter-turn (cell xs)
+
   module _ (v : ℕ) (some : 0 < v) (below : v < J .k) where
     pub entry-in : v * stride + stride ≤ J .k * stride
     entry-in = omega (arith, mul-le-mul-right stride below)
@@ -127,10 +137,10 @@ module _ {s : ℕ} {half : ℤ} {stride : ℕ} {quarter : List ℕ} {xs : List �
 
       pub quad-step : (c d : ℤ) (zs : List ℤ) → c ≡ entry quarter (v * stride) → d ≡ entry quarter (length quarter - 1 - v * stride) → zs ≡ quadded s n v c d ys → Joined lines (cell xs) n (v + 1) zs
       quad-step c d zs ec ed e = rw e (joined-next lines (cell xs) n v ys (turned s (cell ys (n + v)) (cell ys (n + (n - v))) c d) (turned s (cell ys (n + v)) (cell ys (n + (n - v))) d (negℤ c)) D some (omega (arith, two-halves))
-          (ap₂ (λ (a q : ℤ). a +ℤ q) (at-line .one) first-is ∙ sym (line-first s (J .scale .least) (J .scale .most) k n g (J .some) two-halves quarter-turn (cell xs) v (omega (arith, two-halves))))
-          (ap₂ (λ (a q : ℤ). a -ℤ q) (at-line .one) first-is ∙ sym (line-second s (J .scale .least) (J .scale .most) k n g (J .some) two-halves quarter-turn (cell xs) v (omega (arith, two-halves))))
-          (ap₂ (λ (a q : ℤ). a +ℤ q) (at-mirror .one) mirror-is ∙ sym (line-first s (J .scale .least) (J .scale .most) k n g (J .some) two-halves quarter-turn (cell xs) (n - v) (omega (arith, two-halves))))
-          (ap₂ (λ (a q : ℤ). a -ℤ q) (at-mirror .one) mirror-is ∙ sym (line-second s (J .scale .least) (J .scale .most) k n g (J .some) two-halves quarter-turn (cell xs) (n - v) (omega (arith, two-halves)))))
+          (ap₂ (λ (a q : ℤ). a +ℤ q) (at-line .one) first-is ∙ sym (line-is v (omega (arith, two-halves))))
+          (ap₂ (λ (a q : ℤ). a -ℤ q) (at-line .one) first-is ∙ sym (opposite-is v (omega (arith, two-halves))))
+          (ap₂ (λ (a q : ℤ). a +ℤ q) (at-mirror .one) mirror-is ∙ sym (line-is (n - v) (omega (arith, two-halves))))
+          (ap₂ (λ (a q : ℤ). a -ℤ q) (at-mirror .one) mirror-is ∙ sym (opposite-is (n - v) (omega (arith, two-halves)))))
         where
           c-is : c ≡ cosineAt
           c-is = ec ∙ cosine-entry
@@ -138,11 +148,11 @@ module _ {s : ℕ} {half : ℤ} {stride : ℕ} {quarter : List ℕ} {xs : List �
           d-is : d ≡ sineAt
           d-is = ed ∙ sine-entry
 
-          first-is : turned s (cell ys (n + v)) (cell ys (n + (n - v))) c d ≡ Q s (J .scale .least) (J .scale .most) k n g (J .some) two-halves quarter-turn (cell xs) v
+          first-is : turned s (cell ys (n + v)) (cell ys (n + (n - v))) c d ≡ quotient v
           first-is = ap₂ (λ (a b : ℤ). turned s a b c d) (at-line .two) (at-mirror .two) ∙ ap₂ (λ (c d : ℤ). turned s (cell xs (n + v)) (cell xs (n + (n - v))) c d) c-is d-is
               ∙ sym (Q-line s (J .scale .least) (J .scale .most) k n g (J .some) two-halves quarter-turn (cell xs) v some below)
 
-          mirror-is : turned s (cell ys (n + v)) (cell ys (n + (n - v))) d (negℤ c) ≡ Q s (J .scale .least) (J .scale .most) k n g (J .some) two-halves quarter-turn (cell xs) (n - v)
+          mirror-is : turned s (cell ys (n + v)) (cell ys (n + (n - v))) d (negℤ c) ≡ quotient (n - v)
           mirror-is = ap₂ (λ (a b : ℤ). turned s a b d (negℤ c)) (at-line .two) (at-mirror .two) ∙ ap₂ (λ (c d : ℤ). turned s (cell xs (n + v)) (cell xs (n + (n - v))) d (negℤ c)) c-is d-is
               ∙ sym (Q-mirror s (J .scale .least) (J .scale .most) k n g (J .some) two-halves quarter-turn (cell xs) v some below)
 
@@ -162,16 +172,16 @@ module _ {s : ℕ} {half : ℤ} {stride : ℕ} {quarter : List ℕ} {xs : List �
       pub plain-steps : (m : ℕ) (us : List ℤ) → m ≡ J .k → us ≡ split ws n m (cell ws (n + m)) → us ≡ joinedPair s xs
       plain-steps m us em f = f ∙ ap (λ (j : ℕ). split ws n j (cell ws (n + j))) em ∙ ap (λ (zs : List ℤ). split zs n k (cell ws (n + k))) e
           ∙ joined-all lines (cell xs) n k ys (cell ys (n + 0)) (cell ws (n + k)) D (J .some) two-halves
-          (ap (λ (q : ℤ). cell xs 0 +ℤ q) start-is ∙ sym (line-first s (J .scale .least) (J .scale .most) k n g (J .some) two-halves quarter-turn (cell xs) 0 (omega (arith, two-halves, J .some))))
-          (ap (λ (q : ℤ). cell xs 0 -ℤ q) start-is ∙ sym (line-second s (J .scale .least) (J .scale .most) k n g (J .some) two-halves quarter-turn (cell xs) 0 (omega (arith, two-halves, J .some))))
-          (ap (λ (q : ℤ). cell xs k +ℤ q) middle-is ∙ sym (line-first s (J .scale .least) (J .scale .most) k n g (J .some) two-halves quarter-turn (cell xs) k (omega (arith, two-halves, J .some))))
-          (ap (λ (q : ℤ). cell xs k -ℤ q) middle-is ∙ sym (line-second s (J .scale .least) (J .scale .most) k n g (J .some) two-halves quarter-turn (cell xs) k (omega (arith, two-halves, J .some))))
+          (ap (λ (q : ℤ). cell xs 0 +ℤ q) start-is ∙ sym (line-is 0 (omega (arith, two-halves, J .some))))
+          (ap (λ (q : ℤ). cell xs 0 -ℤ q) start-is ∙ sym (opposite-is 0 (omega (arith, two-halves, J .some))))
+          (ap (λ (q : ℤ). cell xs k +ℤ q) middle-is ∙ sym (line-is k (omega (arith, two-halves, J .some))))
+          (ap (λ (q : ℤ). cell xs k -ℤ q) middle-is ∙ sym (opposite-is k (omega (arith, two-halves, J .some))))
           ∙ ap (λ (m : ℕ). tabulate m lines) (sym whole)
         where
-          start-is : cell ys (n + 0) ≡ Q s (J .scale .least) (J .scale .most) k n g (J .some) two-halves quarter-turn (cell xs) 0
+          start-is : cell ys (n + 0) ≡ quotient 0
           start-is = D .start .two ∙ sym (Q-zero s (J .scale .least) (J .scale .most) k n g (J .some) two-halves quarter-turn (cell xs))
 
-          middle-is : cell ws (n + k) ≡ Q s (J .scale .least) (J .scale .most) k n g (J .some) two-halves quarter-turn (cell xs) k
+          middle-is : cell ws (n + k) ≡ quotient k
           middle-is = at-middle .two ∙ sym (Q-middle s (J .scale .least) (J .scale .most) k n g (J .some) two-halves quarter-turn (cell xs))
 
 -- ---- four cells, of which every line is plain

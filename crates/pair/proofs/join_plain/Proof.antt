@@ -17,27 +17,21 @@ use Rattle.pair.proofs.join_plain.Tie as tie
 read-small : (z : ℤ) → natAbs z ≤ LARGEST-PRODUCT → natAbs (toZ w64 (ofZ w64 z)) ≤ LARGEST-SUM
 read-small z h = rw (small-back z (omega arith)) (omega arith)
 
--- src/lib.rt:33:19
 add-b : tie.Need-add-b
 add-b c = search needs
 
--- src/lib.rt:33:13
 mul-b : tie.Need-mul-b
 mul-b c = search needs
 
--- src/lib.rt:33:13
 slice-copy-out-b : tie.Need-slice-copy-out-b
 slice-copy-out-b c = search needs
 
--- src/lib.rt:34:5
 put-both-requires : tie.Need-put-both-requires
 put-both-requires c κs = let s = c .before .before in let a = s .args in (s .pre .0, s .pre .1, s .pre .2, read-small (cell (now (a .cells)) (a .n + a .v)) (s .pre .3))
 
--- src/lib.rt:29:1
 same-length : tie.Need-same-length
 same-length c = search needs
 
--- src/lib.rt:29:1
 returns : tie.Need-returns
 returns c = let s = c .before .before .before .before in let a = s .args in c .before .put-both .ensures ∙ ap (split (now (a .cells)) (a .n) (a .v)) (small-back (cell (now (a .cells)) (a .n + a .v)) (omega (arith, s .pre .3)))
 

@@ -97,50 +97,39 @@ module _ (s : ℕ) (xs ys : List ℤ) (n v : ℕ) (q : ℤ) (e : ys ≡ split xs
       two : n - v ≡ n + v → ⊥
       two e = omega arith
 
--- src/lib.rt:42:18
 sub-mirror : tie.Need-sub-mirror
 sub-mirror c = search needs
 
--- src/lib.rt:43:19
 add-b : tie.Need-add-b
 add-b c = search needs
 
--- src/lib.rt:43:13
 mul-b : tie.Need-mul-b
 mul-b c = search needs
 
--- src/lib.rt:43:13
 slice-copy-out-b : tie.Need-slice-copy-out-b
 slice-copy-out-b c = search needs
 
--- src/lib.rt:44:19
 add-d : tie.Need-add-d
 add-d c = search needs
 
--- src/lib.rt:44:13
 mul-d : tie.Need-mul-d
 mul-d c = search needs
 
--- src/lib.rt:44:13
 slice-copy-out-d : tie.Need-slice-copy-out-d
 slice-copy-out-d c = search needs
 
--- src/lib.rt:45:22
 sum-of-products-requires : tie.Need-sum-of-products-requires
 sum-of-products-requires c κs = let s = c .before .before in let a = s .args in let p = s .pre in (
   product-small (a .digits) (cell (now (a .cells)) (a .n + a .v)) (toZ w64 (ofZ w64 (a .c))) (p .second) (rw (toZ-ofZ (s .fits .c)) (p .cosine)),
   product-small (a .digits) (cell (now (a .cells)) (a .n + (a .n - a .v))) (toZ w64 (ofZ w64 (a .s))) (p .second-mirror) (rw (toZ-ofZ (s .fits .s)) (p .sine)),
 )
 
--- src/lib.rt:45:9
 rounded-requires : tie.Need-rounded-requires
 rounded-requires c κs = let t = c .before .before .before in (halved (t .pre .scale) _ (toZ-ofZ (t .fits .half)), read-small (c .sum-of-products .result) (c .sum-of-products .ensures .1))
 
--- src/lib.rt:46:47
 sub-sum-of-products : tie.Need-sub-sum-of-products
 sub-sum-of-products c = let s = start c in rw (toZ-ofZ (s .fits .c)) (minus-fits (s .args .digits) (s .args .c) (s .pre .scale .most) (s .pre .cosine))
 
--- src/lib.rt:46:22
 sum-of-products-requires-2 : tie.Need-sum-of-products-requires-2
 sum-of-products-requires-2 c κs = let s = start c in let a = s .args in let p = s .pre in (
   product-small (a .digits) (cell (now (a .cells)) (a .n + a .v)) (toZ w64 (ofZ w64 (a .s))) (p .second) (rw (toZ-ofZ (s .fits .s)) (p .sine)),
@@ -148,25 +137,20 @@ sum-of-products-requires-2 c κs = let s = start c in let a = s .args in let p =
       (rw (toZ-ofZ (s .fits .c), toZ-ofZ (minus-fits (a .digits) (a .c) (p .scale .most) (p .cosine))) (minus-size (a .digits) (a .c) (p .cosine))),
 )
 
--- src/lib.rt:46:9
 rounded-requires-2 : tie.Need-rounded-requires-2
 rounded-requires-2 c κs = let t = start (c .before) in (halved (t .pre .scale) _ (toZ-ofZ (t .fits .half)), read-small (c .sum-of-products2 .result) (c .sum-of-products2 .ensures .1))
 
--- src/lib.rt:47:5
 put-both-requires : tie.Need-put-both-requires
 put-both-requires c κs = let f = c .before .before .before in let s = start f in let a = s .args in let p = s .pre in
     (p .long, omega (arith, p .below), room-small (a .digits) (cell (now (a .cells)) (a .v)) (p .first), read-small (f .rounded .result) (first-small f))
 
--- src/lib.rt:48:5
 put-both-requires-2 : tie.Need-put-both-requires-2
 put-both-requires-2 c κs = let g = c .before .before .before .before in let f = g .before .before in let s = start f in let a = s .args in let p = s .pre in let e = c .before .before .put-both .ensures in
     (still-long (a .digits) (now (a .cells)) _ (a .n) (a .v) _ e (p .some) (p .below) (p .long), omega (arith, p .below, p .some), still-room (a .digits) (now (a .cells)) _ (a .n) (a .v) _ e (p .some) (p .below) (p .first-mirror), read-small (g .rounded2 .result) (second-small g))
 
--- src/lib.rt:38:1
 same-length : tie.Need-same-length
 same-length c = search needs
 
--- src/lib.rt:38:1
 returns : tie.Need-returns
 returns c = let b = c .before .before .before .before in let g = b .before .before in let f = g .before .before in let s = start f in let a = s .args in
     c .before .put-both2 .ensures

@@ -38,47 +38,36 @@ difference-written a q h k e f = rw (e, f) (toZ-ofZ (difference-fits a q h k))
 both : (xs : List ℤ) (n v : ℕ) (q y z : ℤ) → y ≡ cell xs v +ℤ q → z ≡ cell xs v -ℤ q → set (set xs v y) (n + v) z ≡ split xs n v q
 both xs n v q y z e f = ap₂ (λ (y z : ℤ). set (set xs v y) (n + v) z) e f
 
--- src/lib.rt:56:13
 mul-a : tie.Need-mul-a
 mul-a c = search needs
 
--- src/lib.rt:56:13
 slice-copy-out-a : tie.Need-slice-copy-out-a
 slice-copy-out-a c = search needs
 
--- src/lib.rt:57:16
 add-cells : tie.Need-add-cells
 add-cells c = let s = c .before in let a = cell (now (s .args .cells)) (s .args .v) in rw (back a (s .pre .2), toZ-ofZ (s .fits .q)) (sum-fits a (s .args .q) (s .pre .2) (s .pre .3))
 
--- src/lib.rt:57:5
 mul-cells : tie.Need-mul-cells
 mul-cells c = search needs
 
--- src/lib.rt:57:5
 slice-set-from-cells : tie.Need-slice-set-from-cells
 slice-set-from-cells c = search needs
 
--- src/lib.rt:58:20
 sub-cells : tie.Need-sub-cells
 sub-cells c = let s = c .before in let a = cell (now (s .args .cells)) (s .args .v) in rw (back a (s .pre .2), toZ-ofZ (s .fits .q)) (difference-fits a (s .args .q) (s .pre .2) (s .pre .3))
 
--- src/lib.rt:58:11
 add-t6 : tie.Need-add-t6
 add-t6 c = search needs
 
--- src/lib.rt:58:5
 mul-t10 : tie.Need-mul-t10
 mul-t10 c = search needs
 
--- src/lib.rt:58:5
 slice-set-from-cells-2 : tie.Need-slice-set-from-cells-2
 slice-set-from-cells-2 c = rw length-set (omega (arith, c .before .pre .0, c .before .pre .1))
 
--- src/lib.rt:52:1
 same-length : tie.Need-same-length
 same-length c = search needs
 
--- src/lib.rt:52:1
 returns : tie.Need-returns
 returns c = let s = c .before in let a = cell (now (s .args .cells)) (s .args .v) in let q = s .args .q in
     both (now (s .args .cells)) (s .args .n) (s .args .v) q _ _ (sum-written a q (s .pre .2) (s .pre .3) (back a (s .pre .2)) (toZ-ofZ (s .fits .q)))

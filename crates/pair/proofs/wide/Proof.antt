@@ -1,4 +1,4 @@
--- `positive` is right because 32 bits fit in 63.
+-- `wide` is right because 32 bits fit in 63.
 use borrow.Author.Needs.{needs}
 use native.Mathlib.Omega.{arith}
 use mir.Syntax.{w64}

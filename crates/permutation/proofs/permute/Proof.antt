@@ -58,28 +58,22 @@ round c = c .before .before .before .before
 below : (c : tie.In-loop Inv-loop μ-loop) → c .before .loop .u < 2 ^ (c .before .before .args .p - 2)
 below c = omega (arith, c .loop-test .taken, (at c) .quarter)
 
--- src/lib.rt:44:5
 loop-holds : tie.Need-loop-holds Inv-loop μ-loop
 loop-holds c = let s = sizes (c .args .p) (length (now (c .args .cells))) (c .pre .0) (c .pre .1) (c .pre .2) in (omega arith, sym (reversed-zero (c .args .p - 2)), none-exchanged _ _ _ _ (now (c .args .cells)) (s .whole))
 
--- src/lib.rt:45:9
 exchange-four-requires : tie.Need-exchange-four-requires Inv-loop μ-loop
 exchange-four-requires c κs = let i = c .before in let l = i .before .loop in let s = at i in
     (l .inv .2 .long ∙ s .two-halves, omega (arith, below i, s .half), omega (arith, rw (sym (l .inv .1)) at (reversed-lt (i .before .before .args .p - 2) (l .u)), s .half), s .few)
 
--- src/lib.rt:46:9
 next-reversed-requires : tie.Need-next-reversed-requires Inv-loop μ-loop
 next-reversed-requires c κs = let s = at (c .before .before .before) in omega (arith, s .few)
 
--- src/lib.rt:47:9
 add-u : tie.Need-add-u Inv-loop μ-loop
 add-u c = let s = at (round c) in omega (arith, below (round c), s .half, s .few)
 
--- src/lib.rt:44:5
 loop-less : tie.Need-loop-less Inv-loop μ-loop
 loop-less c = omega (arith, below (round c))
 
--- src/lib.rt:44:5
 loop-again : tie.Need-loop-again Inv-loop μ-loop
 loop-again c = let i = round c in let l = i .before .loop in let g = i .before .before in let s = at i in let Q = g .args .p - 2 in (
   omega (arith, below i),
@@ -87,11 +81,9 @@ loop-again c = let i = round c in let l = i .before .loop in let g = i .before .
   fours-next (2 ^ Q) (reversed Q) (λ u h. reversed-lt Q u) (reversed-twice Q) (cell (now (g .args .cells))) (l .u) (l .cells) (below i) (l .inv .2) (l .r) _ _ (l .inv .1) (s .half) (c .before .before .exchange-four .ensures),
 )
 
--- src/lib.rt:36:1
 same-length : tie.Need-same-length Inv-loop μ-loop
 same-length c = let s = c .before .before in c .before .loop .inv .2 .long ∙ sym ((sizes (s .args .p) (length (now (s .args .cells))) (s .pre .0) (s .pre .1) (s .pre .2)) .whole)
 
--- src/lib.rt:36:1
 returns : tie.Need-returns Inv-loop μ-loop
 returns c = let l = c .before .loop in let s = c .before .before in let Q = s .args .p - 2 in let z = sizes (s .args .p) (length (now (s .args .cells))) (s .pre .0) (s .pre .1) (s .pre .2) in
     all-exchanged Q (now (s .args .cells)) (l .cells) (subst (λ (k : ℕ). Exchanged Q (cell (now (s .args .cells))) k (l .cells)) (omega (arith, l .inv .0, z .quarter, c .loop-test .left)) (l .inv .2))
