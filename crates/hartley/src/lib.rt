@@ -61,6 +61,8 @@ fn transform(cells: &mut [i64], p: usize)
 {
     if p <= 2 {
         transform_short(cells, p);
+    } else if p == 3 {
+        transform_eight(cells);
     } else {
         permutation::permute(cells, p);
         run_levels(cells, p);
@@ -78,6 +80,16 @@ fn transform_short(cells: &mut [i64], p: usize)
         permutation::exchange(cells, Moment(1), Moment(2));
         levels::join_four(cells);
     }
+}
+
+// The same of eight cells, of which two pairs change places.
+fn transform_eight(cells: &mut [i64])
+    requires { ⌜ Transformable 3 (now cells) ⌝ }
+    ensures { λ _. ⌜ now (cells .exit) ≡ forward 3 (now (cells .entry)) ⌝ }
+{
+    permutation::exchange(cells, Moment(1), Moment(4));
+    permutation::exchange(cells, Moment(3), Moment(6));
+    by_coarse_table(cells, 3);
 }
 
 // Levels 1 to p of permuted cells, up to 64 of them by the coarse table, which is set up sooner.
