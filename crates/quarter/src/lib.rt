@@ -1,4 +1,5 @@
 // The engine's quarter table, and the cosine and sine of any step of a turn by a quarter's cosines.
+mod coarse;
 mod table;
 
 use kind::BlockKind;
@@ -21,7 +22,7 @@ pub fn quarter_table() -> [u32; 257]
 pub fn coarse_table() -> [u32; 17]
     ensures { λ t. ⌜ t ≡ tabulate 17 (λ j. quarterTable SCALE-DIGITS (j * 16)) ⌝ }
 {
-    table::SIXTEENTHS
+    coarse::SIXTEENTHS
 }
 
 // The cosine of a step, whatever its number, from the cosines of a quarter turn: odd about 256, even about 0.
