@@ -7,6 +7,7 @@ ghost use mathlib.Core.Bool.{true};
 ghost use Prim.Native.Nat.{_+_, _*_, _/_, _≤_};
 ghost use lib.ListN.{length};
 ghost use Rattle.kind.specs.BlockKinds.{LARGEST};
+ghost use Rattle.little_endian.specs.Reading.{signeds};
 ghost use Rattle.cell_bytes.specs.CellBytes.{CELL, cellCount, cellsRead};
 ghost use Rattle.block.specs.declared.Answer.the-variants.{Done};
 ghost use Rattle.packing.specs.Packing.{Packable, packed};
@@ -55,7 +56,7 @@ fn forward_small(bytes: &mut [u8], samples: usize) -> u64
 {
     let mut room = [0i64; SMALL];
     let cells = &mut room[..samples];
-    cell_bytes::decode(bytes, cells);
+    read_cells(bytes, cells);
     forward_in(bytes, cells)
 }
 
@@ -66,7 +67,7 @@ fn forward_middle(bytes: &mut [u8], samples: usize) -> u64
 {
     let mut room = [0i64; MIDDLE];
     let cells = &mut room[..samples];
-    cell_bytes::decode(bytes, cells);
+    read_cells(bytes, cells);
     forward_in(bytes, cells)
 }
 
@@ -77,7 +78,7 @@ fn forward_large(bytes: &mut [u8], samples: usize) -> u64
 {
     let mut room = [0i64; BlockKind::LARGEST];
     let cells = &mut room[..samples];
-    cell_bytes::decode(bytes, cells);
+    read_cells(bytes, cells);
     forward_in(bytes, cells)
 }
 
@@ -123,7 +124,7 @@ fn backward_small(bytes: &mut [u8], lines: usize) -> u64
 {
     let mut room = [0i64; SMALL];
     let cells = &mut room[..lines];
-    cell_bytes::decode(bytes, cells);
+    read_cells(bytes, cells);
     backward_in(bytes, cells)
 }
 
@@ -134,7 +135,7 @@ fn backward_middle(bytes: &mut [u8], lines: usize) -> u64
 {
     let mut room = [0i64; MIDDLE];
     let cells = &mut room[..lines];
-    cell_bytes::decode(bytes, cells);
+    read_cells(bytes, cells);
     backward_in(bytes, cells)
 }
 
@@ -145,7 +146,7 @@ fn backward_large(bytes: &mut [u8], lines: usize) -> u64
 {
     let mut room = [0i64; BlockKind::LARGEST];
     let cells = &mut room[..lines];
-    cell_bytes::decode(bytes, cells);
+    read_cells(bytes, cells);
     backward_in(bytes, cells)
 }
 
@@ -220,8 +221,16 @@ fn power_in(spectrum: &[u8], powers: &mut [u8], cells: &mut [i64], values: &mut 
     requires { ⌜ (length (now cells) ≡ cellCount (CELL * LARGEST) (length (now spectrum))) × (length (now values) ≡ cellCount (CELL * (LARGEST / 2 + 1)) (length (now powers))) ⌝ }
     ensures { λ r. ⌜ PowerAnswered (now (spectrum .entry)) (now (powers .entry)) (now (powers .exit)) r ⌝ }
 {
-    cell_bytes::decode(spectrum, cells);
+    read_cells(spectrum, cells);
     answered(fourier::power(cells, values), values, powers)
+}
+
+// Reads as many cells as there is room for, from as many bytes as they take.
+fn read_cells(bytes: &[u8], cells: &mut [i64])
+    requires { ⌜ CELL * length (now cells) ≤ length (now bytes) ⌝ }
+    ensures { λ _. ⌜ now (cells .exit) ≡ signeds CELL (length (now (cells .entry))) (now (bytes .entry)) ⌝ }
+{
+    cell_bytes::decode(&bytes[..CELL * cells.len()], cells);
 }
 
 // A call's answer as a plain number; where nothing is refused, its cells are written as bytes.

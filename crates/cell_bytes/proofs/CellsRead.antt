@@ -1,20 +1,23 @@
 -- The cells that are read from bytes: those that the bytes spell, or none where a byte is left over or they are more than the most.
 -- Example: `count-room most bytes n e : CELL * n ≤ length bytes`, with e : n ≡ cellCount (CELL * most) (length bytes).
-use mathlib.Core.Path.{_≡_, refl, _∙_, ap}
+use mathlib.Core.Path.{_≡_, refl, sym, _∙_, ap}
 use mathlib.Core.Bool.{Bool, true, false, cond, _&&_}
 use mathlib.Core.List.{List, []}
 use Prim.Native.Nat.{ℕ, _+_, _-_, _*_, _/_, _%_, _^_, _≤_, _<_}
 use native.Mathlib.Omega.{arith}
-use borrow.Author.Tests.{eq-eqb, ne-eqb, eqb-true, eqb-false, leb-false}
+use borrow.Author.Tests.{eq-eqb, ne-eqb, le-leb, lt-leb, eqb-true, eqb-false, leb-false}
 use lib.Dec.{eqb, leb}
 use lib.IntN.{ℤ, pos}
 use lib.ListN.{length, getD, take, drop}
-use lib.Seq.{length-take-le}
-use Rattle.ints.proofs.Slices.{length-part}
-use Rattle.little_endian.specs.Reading.{Within, signeds}
+use lib.Seq.{ext-getD, getD-take, length-take-le}
+use Rattle.ints.specs.Tabulate.{tabulate}
+use Rattle.ints.proofs.Filling.{filled-all}
+use Rattle.ints.proofs.Slices.{length-part, part-at}
+use Rattle.ints.proofs.Tables.{getD-tabulate, length-tabulate}
+use Rattle.little_endian.specs.Reading.{Within, signed, signeds}
 use Rattle.little_endian.specs.Spelling.{spelledSigneds}
-use Rattle.little_endian.proofs.Signed.{length-signeds, length-spelled-signeds, signeds-spelled}
-use Rattle.cell_bytes.specs.CellBytes.{CELL, cellCount, cellsIn, cellsRead}
+use Rattle.little_endian.proofs.Signed.{length-signeds, length-spelled-signeds, signeds-spelled, signeds-tabulated}
+use Rattle.cell_bytes.specs.CellBytes.{CELL, cellCount, cellsIn, cellsRead, decoded, encoded}
 
 -- n cells are read: those that the bytes spell, or none where they are more than the most
 pub data Reads (most : ℕ) (bytes : List ℕ) (n : ℕ) : Type 0 where
@@ -28,6 +31,27 @@ whole-cells bytes e = rw (eq-eqb (length bytes % CELL) 0 e) refl
 pub no-cells : (bytes : List ℕ) → (length bytes % CELL ≡ 0 → ⊥) → cellsIn bytes ≡ []
 unfolding cellsIn
 no-cells bytes h = rw (ne-eqb (length bytes % CELL) 0 h) refl
+
+-- ---- cells are read where there are bytes enough, and written where there are as many as they take
+
+module _ (bytes : List ℕ) (cells : List ℤ) where
+  pub decoded-all : CELL * length cells ≤ length bytes → decoded bytes cells ≡ signeds CELL (length cells) bytes
+  unfolding decoded
+  decoded-all h = rw (le-leb (CELL * length cells) (length bytes) h) refl
+
+  pub decoded-none : length bytes < CELL * length cells → decoded bytes cells ≡ cells
+  unfolding decoded
+  decoded-none h = rw (lt-leb (CELL * length cells) (length bytes) h) refl
+
+  pub encoded-all : length bytes ≡ CELL * length cells → encoded cells bytes ≡ spelledSigneds CELL cells
+  unfolding encoded
+  encoded-all h = rw (eq-eqb (length bytes) (CELL * length cells) h) refl
+
+  pub encoded-none : (length bytes ≡ CELL * length cells → ⊥) → encoded cells bytes ≡ bytes
+  unfolding encoded
+  encoded-none h = rw (ne-eqb (length bytes) (CELL * length cells) h) refl
+
+-- ---- how many are read
 
 module _ (most : ℕ) (bytes : List ℕ) (n : ℕ) (e : n ≡ cellCount (CELL * most) (length bytes)) where
   pub reads : Reads most bytes n
@@ -62,6 +86,32 @@ eight bytes start end e h = length-part 0 start (end - start) bytes (omega arith
   where
     many : end - start ≡ CELL
     many = omega arith
+
+-- ---- cells are read from the front of the bytes that is as long as they take
+
+module _ (bytes : List ℕ) (cells : List ℤ) (k : ℕ) (e : k ≡ CELL * length cells) (h : k ≤ length bytes) where
+  front-word : (i : ℕ) → i < length cells → take CELL (drop (CELL * i) (take k bytes)) ≡ take CELL (drop (CELL * i) bytes)
+  front-word i l = ext-getD 0 (take CELL (drop (CELL * i) (take k bytes))) (take CELL (drop (CELL * i) bytes)) (long ∙ sym (length-part 0 (CELL * i) CELL bytes (omega arith)))
+      (λ j g. let g : j < CELL = omega (arith, long) in
+      part-at 0 (CELL * i) CELL (take k bytes) j g ∙ getD-take k bytes (CELL * i + j) 0 (omega arith) ∙ sym (part-at 0 (CELL * i) CELL bytes j g))
+    where
+      long : length (take CELL (drop (CELL * i) (take k bytes))) ≡ CELL
+      long = length-part 0 (CELL * i) CELL (take k bytes) (omega (arith, length-take-le k bytes h))
+
+  pub front-decoded : decoded (take k bytes) cells ≡ signeds CELL (length cells) bytes
+  front-decoded = decoded-all (take k bytes) cells (omega (arith, length-take-le k bytes h))
+      ∙ sym (signeds-tabulated CELL n (take k bytes))
+      ∙ filled-all (pos 0) (spelled bytes) (tabulate n front) n (length-tabulate n front) (λ i l. getD-tabulate n front (pos 0) i l ∙ ap signed (front-word i l))
+      ∙ signeds-tabulated CELL n bytes
+    where
+      n : ℕ
+      n = length cells
+
+      spelled : List ℕ → ℕ → ℤ
+      spelled bs i = signed (take CELL (drop (CELL * i) bs))
+
+      front : ℕ → ℤ
+      front = spelled (take k bytes)
 
 -- ---- bytes that were written spell the cells that they were written for
 

@@ -1,11 +1,12 @@
 -- Document 01, Parts of the engine: for a host in C each cell is eight bytes, two's complement, least byte first.
 use mathlib.Core.Bool.{cond, _&&_}
 use mathlib.Core.List.{List, []}
-use Prim.Native.Nat.{ℕ, _/_, _%_}
+use Prim.Native.Nat.{ℕ, _*_, _/_, _%_}
 use lib.Dec.{eqb, leb}
 use lib.IntN.{ℤ}
 use lib.ListN.{length}
 use Rattle.little_endian.specs.Reading.{signeds}
+use Rattle.little_endian.specs.Spelling.{spelledSigneds}
 
 -- the bytes of a cell
 abbrev pub CELL : ℕ
@@ -24,3 +25,11 @@ cellCount most n = cond (eqb (n % CELL) 0 && leb n most) (n / CELL) 0
 -- and those cells
 abbrev pub cellsRead : ℕ → List ℕ → List ℤ
 cellsRead most bytes = signeds CELL (cellCount most (length bytes)) bytes
+
+-- the cells once bytes are read into them: as they were where there are too few bytes
+unfoldable pub decoded : List ℕ → List ℤ → List ℤ
+decoded bytes cells = let n = length cells in cond (leb (CELL * n) (length bytes)) (signeds CELL n bytes) cells
+
+-- the bytes once cells are written to them: as they were where they are not as many as the cells take
+unfoldable pub encoded : List ℤ → List ℕ → List ℕ
+encoded cells bytes = cond (eqb (length bytes) (CELL * length cells)) (spelledSigneds CELL cells) bytes

@@ -2,9 +2,9 @@
 ghost use mathlib.Core.Path.{_≡_};
 ghost use Prim.Native.Nat.{_*_, _≤_};
 ghost use lib.ListN.{length};
-ghost use Rattle.little_endian.specs.Reading.{signeds, unsigned};
-ghost use Rattle.little_endian.specs.Spelling.{spelled, spelledSigneds};
-ghost use Rattle.cell_bytes.specs.CellBytes.{CELL, cellCount};
+ghost use Rattle.little_endian.specs.Reading.{unsigned};
+ghost use Rattle.little_endian.specs.Spelling.{spelled};
+ghost use Rattle.cell_bytes.specs.CellBytes.{CELL, cellCount, decoded, encoded};
 
 // The bytes of a cell.
 pub const CELL: usize = 8;
@@ -25,11 +25,13 @@ pub fn cell_count(most: usize, bytes: usize) -> usize
     bytes / CELL
 }
 
-// Reads as many cells as there is room for.
+// Reads as many cells as there is room for. Where there are too few bytes for them, nothing is read.
 pub fn decode(bytes: &[u8], cells: &mut [i64])
-    requires { ⌜ CELL * length (now cells) ≤ length (now bytes) ⌝ }
-    ensures { λ _. ⌜ now (cells .exit) ≡ signeds CELL (length (now (cells .entry))) (now (bytes .entry)) ⌝ }
+    ensures { λ _. ⌜ now (cells .exit) ≡ decoded (now (bytes .entry)) (now (cells .entry)) ⌝ }
 {
+    if bytes.len() < CELL * cells.len() {
+        return;
+    }
     let mut i = 0;
     while i < cells.len() {
         let at = CELL * i;
@@ -52,11 +54,13 @@ fn word(bytes: &[u8]) -> u64
     word
 }
 
-// Writes cells as bytes.
+// Writes cells as bytes. Where the bytes are not as many as the cells take, nothing is written.
 pub fn encode(cells: &[i64], bytes: &mut [u8])
-    requires { ⌜ length (now bytes) ≡ CELL * length (now cells) ⌝ }
-    ensures { λ _. ⌜ now (bytes .exit) ≡ spelledSigneds CELL (now (cells .entry)) ⌝ }
+    ensures { λ _. ⌜ now (bytes .exit) ≡ encoded (now (cells .entry)) (now (bytes .entry)) ⌝ }
 {
+    if bytes.len() != CELL * cells.len() {
+        return;
+    }
     let mut i = 0;
     while i < cells.len() {
         let at = CELL * i;

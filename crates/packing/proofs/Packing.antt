@@ -1,6 +1,6 @@
 -- Unpacking an answer gives back what was packed, since each part stays within its bytes.
 -- Example: `block-unpacked k : unpackedBlock (packed (blockAnswer k)) ≡ verdictNumbers k`.
-use mathlib.Core.Path.{_≡_, refl}
+use mathlib.Core.Path.{_≡_, refl, _∙_}
 use mathlib.Core.Bool.{false}
 use Prim.Native.Nat.{ℕ, _+_, _*_, _/_, _%_, _^_, _≤_, _<_}
 use native.Mathlib.Omega.{arith}
@@ -68,10 +68,27 @@ block-unpacked (BlockRefused refusal) = rw (refused-at-all refusal, number-back 
 abbrev pub Fitting : TraceHead → ℕ → Type 0
 Fitting head blocks = (head .rate < 256 ^ 4) × (head .p ≤ 10) × (blocks < 256 ^ 2)
 
+-- the lower two and the lower four bytes of x
+two-bytes : (x : ℕ) → x % 256 + 256 * (x / 256 % 256) ≡ x % 256 ^ 2
+two-bytes x = omega arith
+
+four-bytes : (x : ℕ) → x % 256 + 256 * (x / 256 % 256 + 256 * (x / 256 / 256 % 256 + 256 * (x / 256 / 256 / 256 % 256))) ≡ x % 256 ^ 4
+four-bytes x = joined x (x / 256 / 256) _ _ _ _ (omega arith) (two-bytes x) (two-bytes (x / 256 / 256))
+  where
+    joined : (x y a b c d : ℕ) → y ≡ x / 256 ^ 2 → a + 256 * b ≡ x % 256 ^ 2 → c + 256 * d ≡ y % 256 ^ 2 → a + 256 * (b + 256 * (c + 256 * d)) ≡ x % 256 ^ 4
+    joined x y a b c d e low high = omega arith
+
+pub accepted-packed : (head : TraceHead) (blocks : ℕ) → packedTrace (Accepted head blocks) ≡ 256 * (head .p % 256 + 256 * (blocks % 256 ^ 2 + 256 ^ 2 * (head .rate % 256 ^ 4)))
+unfolding unsigned spelled
+accepted-packed head blocks = summed _ _ _ _ _ _ _ _ _ (two-bytes blocks) (four-bytes (head .rate))
+  where
+    summed : (p a b c d e f count rate : ℕ) → a + 256 * b ≡ count → c + 256 * (d + 256 * (e + 256 * f)) ≡ rate
+        → 0 + 256 * (p + 256 * (a + 256 * (b + 256 * (c + 256 * (d + 256 * (e + 256 * (f + 256 * 0))))))) ≡ 256 * (p + 256 * (count + 256 ^ 2 * rate))
+    summed p a b c d e f count rate ec er = omega arith
+
 module _ (head : TraceHead) (blocks : ℕ) (f : Fitting head blocks) where
-  pub accepted-packed : packedTrace (Accepted head blocks) ≡ 256 * (head .p + 256 * (blocks + 256 ^ 2 * head .rate))
-  unfolding unsigned spelled
-  accepted-packed = omega arith
+  fitting-packed : packedTrace (Accepted head blocks) ≡ 256 * (head .p + 256 * (blocks + 256 ^ 2 * head .rate))
+  fitting-packed = accepted-packed head blocks ∙ omega arith
 
   accepted-unpacked : unpackedTrace (packedTrace (Accepted head blocks)) ≡ traceAnswerNumbers (Accepted head blocks)
   unfolding unpackedTrace
@@ -82,7 +99,7 @@ module _ (head : TraceHead) (blocks : ℕ) (f : Fitting head blocks) where
       let after-2 : a / 256 ^ 2 ≡ blocks + 256 ^ 2 * head .rate = omega arith in
       let exponent : (head .p + 256 * (blocks + 256 ^ 2 * head .rate)) % 256 ≡ head .p = omega arith in
       let count : (blocks + 256 ^ 2 * head .rate) % 256 ^ 2 ≡ blocks = omega arith in
-      rw (accepted-packed, eq-eqb (numberIn a) 0 none, rate, after-1, exponent, after-2, count) refl
+      rw (fitting-packed, eq-eqb (numberIn a) 0 none, rate, after-1, exponent, after-2, count) refl
 
 pub trace-unpacked : (answer : TraceAnswer) → ((head : TraceHead) (blocks : ℕ) → Accepted head blocks ≡ answer → Fitting head blocks) → unpackedTrace (packedTrace answer) ≡ traceAnswerNumbers answer
 unfolding unpackedTrace

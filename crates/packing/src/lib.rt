@@ -3,16 +3,15 @@ use block::Answer;
 use record::Head;
 use refusal::Refusal;
 ghost use mathlib.Core.Path.{_≡_};
-ghost use Prim.Native.Nat.{_^_, _≤_, _<_};
+ghost use Prim.Native.Nat.{_≤_};
 ghost use Rattle.refusal.specs.RefusalTable.{place};
 ghost use Rattle.trace.specs.Contents.{LONGEST};
 ghost use Rattle.trace.specs.declared.TraceAnswer.the-variants.{Accepted};
 ghost use Rattle.packing.specs.Packing.{Packable, packed, packedRefusal, packedTrace};
 
-// The answer of a call on a block as a plain number.
+// The answer of a call on a block as a plain number. Of a place beyond its seven bytes the upper byte is left off.
 pub fn packed(answer: Answer) -> u64
-    requires { ⌜ Packable answer ⌝ }
-    ensures { λ r. ⌜ r ≡ packed answer ⌝ }
+    ensures { λ r. ⌜ (Packable answer → r ≡ packed answer) ⌝ }
 {
     match answer {
         Answer::Done => 0,
@@ -20,20 +19,21 @@ pub fn packed(answer: Answer) -> u64
     }
 }
 
-// A refusal as a plain number.
+// A refusal as a plain number. Of a place beyond its seven bytes the upper byte is left off.
 pub fn packed_refusal(refusal: Refusal) -> u64
-    requires { ⌜ place refusal ≤ LONGEST ⌝ }
-    ensures { λ r. ⌜ r ≡ packedRefusal refusal ⌝ }
+    ensures { λ r. ⌜ (place refusal ≤ LONGEST → r ≡ packedRefusal refusal) ⌝ }
 {
     let number = refusal.number() as u64;
-    let place = refusal.place() as u64;
+    let place = refusal.place() as u64 % 72057594037927936;
     number + 256 * place
 }
 
-// What an accepted trace holds as a plain number.
+// What an accepted trace holds as a plain number. Of each number that does not fit its bytes the upper ones are left off.
 pub fn packed_trace(head: Head, blocks: usize) -> u64
-    requires { ⌜ (head .rate < 256 ^ 4) × (head .p ≤ 10) × (blocks < 256 ^ 2) ⌝ }
     ensures { λ r. ⌜ r ≡ packedTrace (Accepted head blocks) ⌝ }
 {
-    256 * (head.p as u64 + 256 * (blocks as u64 + 65536 * (head.rate as u64)))
+    let p = head.p as u64 % 256;
+    let count = blocks as u64 % 65536;
+    let rate = head.rate as u64 % 4294967296;
+    256 * (p + 256 * (count + 65536 * rate))
 }

@@ -30,11 +30,11 @@ abbrev values : tie.After-power → List ℤ
 values f = now (start f .args .values)
 
 -- the cells that the call was given
-read : (f : tie.After-power) → f .before .before .before .before .decode .last .1 .0 ≡ signeds CELL (room f) (spectrum f)
-read f = f .before .before .before .before .decode .ensures
+read : (f : tie.After-power) → f .before .before .before .before .read-cells .last .1 .0 ≡ signeds CELL (room f) (spectrum f)
+read f = f .before .before .before .before .read-cells .ensures
 
-decode-requires : tie.Need-decode-requires
-decode-requires c κs = let s = c .before .before .before in count-room LARGEST (now (s .args .spectrum)) _ (s .pre .0)
+read-cells-requires : tie.Need-read-cells-requires
+read-cells-requires c κs = let s = c .before .before .before in count-room LARGEST (now (s .args .spectrum)) _ (s .pre .0)
 
 power-requires : tie.Need-power-requires
 power-requires c κs = tt
@@ -49,7 +49,7 @@ same-length : tie.Need-same-length
 same-length c = c .before .before .answered .kept .1 .1 .0
 
 same-length-2 : tie.Need-same-length-2
-same-length-2 c = c .before .before .before .before .before .before .before .before .before .before .decode .kept .1 .0
+same-length-2 c = c .before .before .before .before .before .before .before .before .before .before .read-cells .kept .1 .0
 
 same-length-3 : tie.Need-same-length-3
 same-length-3 c = c .before .before .before .before .before .before .power .kept .1 .0
@@ -59,4 +59,4 @@ returns c = let f = c .before .before .before .before .before .before in let e =
     answered-power (spectrum f) (powers f) (room f) (p .0) (values f) (p .1) _ (read f) (e .0) _ _ _ (e .1 .1) (a .0) (a .1)
 
 pub power-in-spec : {M : Type 1} → statement M
-power-in-spec = tie.close (tie.spec decode-requires power-requires answered-requires same-length same-length-2 same-length-3 returns)
+power-in-spec = tie.close (tie.spec read-cells-requires power-requires answered-requires same-length same-length-2 same-length-3 returns)

@@ -13,7 +13,7 @@ use mir.Val.{toZ, ofZ}
 use Rattle.ints.proofs.Filling.{Filled, filled-next, filled-all}
 use Rattle.little_endian.specs.Reading.{signedOfWord, signed, signeds, unsigned}
 use Rattle.little_endian.proofs.Signed.{signeds-tabulated}
-use Rattle.cell_bytes.proofs.CellsRead.{eight}
+use Rattle.cell_bytes.proofs.CellsRead.{decoded-all, decoded-none, eight}
 use Rattle.cell_bytes.proofs.decode.Statement.{statement}
 use Rattle.cell_bytes.proofs.decode.Tie as tie
 
@@ -42,6 +42,12 @@ Inv-loop bytes cells₀ i₀ cells i = (i ≤ length cells₀) × (length cells 
 abbrev μ-loop : tie.MeasureT-loop
 μ-loop bytes cells₀ i₀ cells i = length cells₀ - i
 
+mul-if1 : tie.Need-mul-if1 Inv-loop μ-loop
+mul-if1 c = search needs
+
+returns : tie.Need-returns Inv-loop μ-loop
+returns c = sym (decoded-none _ _ (omega arith))
+
 loop-holds : tie.Need-loop-holds Inv-loop μ-loop
 loop-holds c = (omega arith, refl, λ i h. absurd (omega arith))
 
@@ -66,8 +72,8 @@ word-requires c κs = let i = c .before .before .loop .i in eight _ (8 * i) (8 *
 signed-of-word-requires : tie.Need-signed-of-word-requires Inv-loop μ-loop
 signed-of-word-requires c κs = tt
 
-mul-t13 : tie.Need-mul-t13 Inv-loop μ-loop
-mul-t13 c = search needs
+mul-t17 : tie.Need-mul-t17 Inv-loop μ-loop
+mul-t17 c = search needs
 
 slice-set-from-cells : tie.Need-slice-set-from-cells Inv-loop μ-loop
 slice-set-from-cells c = search needs
@@ -79,7 +85,7 @@ loop-less : tie.Need-loop-less Inv-loop μ-loop
 loop-less c = omega arith
 
 loop-again : tie.Need-loop-again Inv-loop μ-loop
-loop-again c = let l = c .before .before .before .before .loop in let bytes = now (c .before .before .before .before .before .before .args .bytes) in let r = c .signed-of-word .result in
+loop-again c = let l = c .before .before .before .before .loop in let bytes = now (c .before .before .before .before .before .before .before .args .bytes) in let r = c .signed-of-word .result in
     let back : toZ w64 (ofZ w64 r) ≡ r = toZ-ofZ (sfits-of (c .signed-of-word .ok)) in (
       omega arith,
       length-set (l .cells) (l .i) _ ∙ l .inv .1,
@@ -90,8 +96,8 @@ loop-again c = let l = c .before .before .before .before .loop in let bytes = no
 same-length : tie.Need-same-length Inv-loop μ-loop
 same-length c = c .before .loop .inv .1
 
-returns : tie.Need-returns Inv-loop μ-loop
-returns c = let l = c .before .loop in all _ (l .cells) (l .i) _ (omega arith) (l .inv .1) (l .inv .2)
+returns-2 : tie.Need-returns-2 Inv-loop μ-loop
+returns-2 c = let l = c .before .loop in all _ (l .cells) (l .i) _ (omega arith) (l .inv .1) (l .inv .2) ∙ sym (decoded-all _ _ (omega arith))
 
 pub decode-spec : {M : Type 1} → statement M
 decode-spec =
@@ -99,6 +105,8 @@ decode-spec =
     (tie.spec
     Inv-loop
     μ-loop
+    mul-if1
+    returns
     loop-holds
     mul-at
     add-word
@@ -107,10 +115,10 @@ decode-spec =
     part-word-end
     word-requires
     signed-of-word-requires
-    mul-t13
+    mul-t17
     slice-set-from-cells
     add-i
     loop-less
     loop-again
     same-length
-    returns)
+    returns-2)

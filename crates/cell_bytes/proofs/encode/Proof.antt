@@ -1,5 +1,5 @@
 -- `encode` is right because the bytes before byte 8 i are those of the first i cells, and each round writes the eight of one more.
-use borrow.Author.Needs.{sfits-of}
+use borrow.Author.Needs.{needs, sfits-of}
 use borrow.Rule.Slice.PartMut.{putMid, same-len-mid}
 use mathlib.Core.Path.{_≡_, refl, sym, _∙_, ap}
 use mathlib.Core.List.{List}
@@ -16,7 +16,7 @@ use Rattle.ints.specs.Cells.{cell}
 use Rattle.little_endian.specs.Spelling.{wordOfSigned, spelled, spelledSigned, spelledSigneds}
 use Rattle.little_endian.proofs.Unsigned.{length-spelled}
 use Rattle.little_endian.proofs.Signed.{length-spelled-signeds, spelled-signeds-at}
-use Rattle.cell_bytes.proofs.CellsRead.{eight}
+use Rattle.cell_bytes.proofs.CellsRead.{eight, encoded-all, encoded-none}
 use Rattle.cell_bytes.proofs.encode.Statement.{statement}
 use Rattle.cell_bytes.proofs.encode.Tie as tie
 
@@ -51,8 +51,14 @@ Inv-loop cells bytes₀ i₀ bytes i = (i ≤ length cells) × (length bytes ≡
 abbrev μ-loop : tie.MeasureT-loop
 μ-loop cells bytes₀ i₀ bytes i = length cells - i
 
+mul-if1 : tie.Need-mul-if1 Inv-loop μ-loop
+mul-if1 c = search needs
+
+returns : tie.Need-returns Inv-loop μ-loop
+returns c = sym (encoded-none _ _ (λ e. omega arith))
+
 loop-holds : tie.Need-loop-holds Inv-loop μ-loop
-loop-holds c = (omega arith, c .before .pre, λ i h. absurd (omega arith))
+loop-holds c = (omega arith, omega arith, λ i h. absurd (omega arith))
 
 mul-at : tie.Need-mul-at Inv-loop μ-loop
 mul-at c = omega arith
@@ -88,17 +94,17 @@ loop-less : tie.Need-loop-less Inv-loop μ-loop
 loop-less c = omega arith
 
 loop-again : tie.Need-loop-again Inv-loop μ-loop
-loop-again c = let l = c .before .before .before .before .before .before .before .loop in let cells = now (c .before .before .before .before .before .before .before .before .before .args .cells) in
+loop-again c = let l = c .before .before .before .before .before .before .before .loop in let cells = now (c .before .before .before .before .before .before .before .before .before .before .args .cells) in
     let p = c .before .before in let r = p .before .before in
     let n = next cells (l .i) (8 * l .i) (8 * l .i + 8) refl refl (l .bytes) (omega arith) _ (r .word-of-signed .result) (l .i + 1) _ (omega arith) (l .inv .2)
     (p .put-word .ensures) (r .word-of-signed .ensures) (toZ-ofZ (sfits-of (r .before .word-of-signed-arg .given))) refl in
     (omega arith, n .0 ∙ l .inv .1, n .1)
 
 same-length : tie.Need-same-length Inv-loop μ-loop
-same-length c = c .before .loop .inv .1 ∙ sym (c .before .before .before .pre)
+same-length c = omega (arith, c .before .loop .inv .1)
 
-returns : tie.Need-returns Inv-loop μ-loop
-returns c = let l = c .before .loop in all _ (l .bytes) (l .i) (omega arith) (l .inv .1) (l .inv .2)
+returns-2 : tie.Need-returns-2 Inv-loop μ-loop
+returns-2 c = let l = c .before .loop in all _ (l .bytes) (l .i) (omega arith) (l .inv .1) (l .inv .2) ∙ sym (encoded-all _ _ (omega arith))
 
 pub encode-spec : {M : Type 1} → statement M
 encode-spec =
@@ -106,6 +112,8 @@ encode-spec =
     (tie.spec
     Inv-loop
     μ-loop
+    mul-if1
+    returns
     loop-holds
     mul-at
     mul-word-of-signed
@@ -120,4 +128,4 @@ encode-spec =
     loop-less
     loop-again
     same-length
-    returns)
+    returns-2)

@@ -25,17 +25,16 @@ enum-known-refusal : tie.Need-enum-known-refusal
 enum-known-refusal c = c .match .keys1
 
 packed-refusal-requires : tie.Need-packed-refusal-requires
-packed-refusal-requires c κs = refused-range _ _ (sym (c .before .refusal .given .1) ∙ c .before .before .before .check .ensures .0)
+packed-refusal-requires c κs = tt
 
 enum-known-head : tie.Need-enum-known-head
 enum-known-head c = c .match .keys2
 
 packed-trace-requires : tie.Need-packed-trace-requires
-packed-trace-requires c κs = let k = c .before .before .before in
-    accepted-range _ _ _ (sym (c .before .head .given .1) ∙ k .check .ensures .0) (λ i. k .before .shared-slice-known .given i .fits)
+packed-trace-requires c κs = tt
 
 returns : tie.Need-returns
-returns c = let k = c .before .before .before .before in let e = c .packed-refusal .ensures ∙ ap packedTrace (sym (c .before .before .refusal .given .1) ∙ k .check .ensures .0) in
+returns c = let k = c .before .before .before .before in let q = sym (c .before .before .refusal .given .1) ∙ k .check .ensures .0 in let e = c .packed-refusal .ensures (refused-range _ _ q) ∙ ap packedTrace q in
     (e, unpacks _ _ (λ i. k .before .shared-slice-known .given i .fits) e)
 
 returns-2 : tie.Need-returns-2

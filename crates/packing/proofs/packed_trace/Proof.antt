@@ -1,4 +1,4 @@
--- `packed_trace` is right because every number fits its bytes, and so the bytes of all spell the sum that is computed.
+-- `packed_trace` is right because the lower bytes of each number are as many as it has, and so the bytes of all spell the sum that is computed.
 use mathlib.Core.Path.{sym, _∙_}
 use native.Mathlib.Omega.{arith}
 use Rattle.packing.proofs.Packing.{accepted-packed}
@@ -21,7 +21,7 @@ mul-result-3 : tie.Need-mul-result-3
 mul-result-3 c = omega arith
 
 returns : tie.Need-returns
-returns c = omega arith ∙ sym (accepted-packed (c .args .head) (c .args .blocks) (c .pre))
+returns c = omega arith ∙ sym (accepted-packed (c .args .head) (c .args .blocks))
 
 pub packed-trace-spec : {M : Type 1} → statement M
 packed-trace-spec = tie.close (tie.spec mul-result add-result mul-result-2 add-result-2 mul-result-3 returns)
