@@ -1,49 +1,27 @@
--- `put_decimal` is right because the byte after the number is put behind so many places as it has digits, and these are put into them.
-use mathlib.Core.Path.{_≡_, _∙_}
-use mathlib.Core.List.{List, [], _∷_}
-use Prim.Native.Nat.{ℕ, _+_, _≤_}
+-- `put_decimal` is right because the number and the byte after it are put where there is room for them.
+use mathlib.Core.Bool.{true≢false}
+use mathlib.Core.Path.{sym, _∙_}
 use native.Mathlib.Omega.{arith}
-use lib.ListN.{length, set, length-set}
-use Rattle.ints.specs.Written.{written}
-use Rattle.ints.proofs.Writing.{written-one, written-before}
-use Rattle.text.specs.Decimals.{PutField}
 use Rattle.text.proofs.put_decimal.Statement.{statement}
 use Rattle.text.proofs.put_decimal.Tie as tie
-
--- byte b was put at i, right behind the place of the field, and then the field
-field-put : (field before : List ℕ) {after : List ℕ} {at : ℕ} (i b : ℕ) {end : ℕ} → at + length field + 1 ≤ length before → i ≡ at + length field
-    → after ≡ written (set before i b) at field → end ≡ i + 1 → PutField field b before at after end
-field-put field before {after} {at} i b h ei w ee = record { ends = omega arith; bytes = w ∙ rw (written-one before i b (omega arith), ei) (written-before before at field (b ∷ []) h) }
 
 count-digits-requires : tie.Need-count-digits-requires
 count-digits-requires c κs = tt
 
-add-end : tie.Need-add-end
-add-end c = omega arith
+has-room-requires : tie.Need-has-room-requires
+has-room-requires c κs = tt
 
-slice-write-out : tie.Need-slice-write-out
-slice-write-out c = omega arith
-
-put-digits-requires : tie.Need-put-digits-requires
-put-digits-requires c κs = (omega arith, simp length-set (omega arith))
-
-add-result : tie.Need-add-result
-add-result c = omega arith
+put-field-requires : tie.Need-put-field-requires
+put-field-requires c κs = let h = c .before .before in (h .before .count-digits .ensures, h .has-room .ensures .0 (c .before .if1 .taken))
 
 same-length : tie.Need-same-length
-same-length c = c .before .before .put-digits .kept .1 .0 ∙ simp length-set
+same-length c = c .before .before .put-field .kept .1 .1 .1 .0
 
 returns : tie.Need-returns
-returns c = field-put _ _ _ _ (omega arith) (omega arith) (c .before .before .put-digits .ensures) (omega arith)
+returns c = λ room. c .before .before .put-field .ensures
+
+returns-2 : tie.Need-returns-2
+returns-2 c = λ room. absurd (true≢false (sym (c .before .has-room .ensures .1 (omega (arith, c .before .before .count-digits .ensures))) ∙ c .if1 .left))
 
 pub put-decimal-spec : {M : Type 1} → statement M
-put-decimal-spec =
-    tie.close
-    (tie.spec
-    count-digits-requires
-    add-end
-    slice-write-out
-    put-digits-requires
-    add-result
-    same-length
-    returns)
+put-decimal-spec = tie.close (tie.spec count-digits-requires has-room-requires put-field-requires same-length returns returns-2)
