@@ -1,15 +1,16 @@
 // Numbers as text (document 01, Listing program), each with the byte that comes after it in a line, straight into lent bytes.
 ghost use mathlib.Core.Path.{_≡_};
 ghost use mathlib.Core.Bool.{true};
-ghost use Prim.Native.Nat.{_+_, _%_, _≤_};
+ghost use Prim.Native.Nat.{_+_, _%_, _≤_, _<_};
 ghost use lib.ListN.{length};
 ghost use Rattle.ints.specs.Written.{written};
 ghost use Rattle.text.specs.Decimals.{PutField, decimal, digit, signedDecimal};
 
-// Puts x in decimal and the byte after it at a place of the lent bytes, and answers the place after them. Where there is no room for all of it, nothing is put and
-// the place is answered.
+// Puts x in decimal and the byte after it at a place of the lent bytes, and answers the place after them. Where there is no room for all of it, nothing is put
+// and the place itself is answered.
 pub fn put_decimal(x: u64, after: u8, out: &mut [u8], at: usize) -> usize
-    ensures { λ r. ⌜ (at + length (decimal x) + 1 ≤ length (now (out .entry)) → PutField (decimal x) after (now (out .entry)) at (now (out .exit)) r) ⌝ }
+    ensures put { λ r. ⌜ (at + length (decimal x) + 1 ≤ length (now (out .entry)) → PutField (decimal x) after (now (out .entry)) at (now (out .exit)) r) ⌝ }
+    ensures kept { λ r. ⌜ (length (now (out .entry)) < at + length (decimal x) + 1 → (now (out .exit) ≡ now (out .entry)) × (r ≡ at)) ⌝ }
 {
     let digits = count_digits(x);
     if has_room(digits, out.len(), at) {
@@ -20,7 +21,8 @@ pub fn put_decimal(x: u64, after: u8, out: &mut [u8], at: usize) -> usize
 
 // The same with a minus sign in front where x is negative.
 pub fn put_signed(x: i64, after: u8, out: &mut [u8], at: usize) -> usize
-    ensures { λ r. ⌜ (at + length (signedDecimal x) + 1 ≤ length (now (out .entry)) → PutField (signedDecimal x) after (now (out .entry)) at (now (out .exit)) r) ⌝ }
+    ensures put { λ r. ⌜ (at + length (signedDecimal x) + 1 ≤ length (now (out .entry)) → PutField (signedDecimal x) after (now (out .entry)) at (now (out .exit)) r) ⌝ }
+    ensures kept { λ r. ⌜ (length (now (out .entry)) < at + length (signedDecimal x) + 1 → (now (out .exit) ≡ now (out .entry)) × (r ≡ at)) ⌝ }
 {
     let size = ints::magnitude(x);
     if x < 0 {

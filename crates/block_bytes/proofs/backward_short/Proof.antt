@@ -14,7 +14,7 @@ backward-small-requires-3 : tie.Need-backward-small-requires-3
 backward-small-requires-3 c κs = (omega arith, omega arith)
 
 backward-small-requires-4 : tie.Need-backward-small-requires-4
-backward-small-requires-4 c κs = search needs
+backward-small-requires-4 c κs = (omega arith, omega arith)
 
 same-length : tie.Need-same-length
 same-length c = search needs

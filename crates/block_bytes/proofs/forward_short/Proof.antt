@@ -14,7 +14,7 @@ forward-small-requires-3 : tie.Need-forward-small-requires-3
 forward-small-requires-3 c κs = (omega arith, omega arith)
 
 forward-small-requires-4 : tie.Need-forward-small-requires-4
-forward-small-requires-4 c κs = search needs
+forward-small-requires-4 c κs = (omega arith, omega arith)
 
 same-length : tie.Need-same-length
 same-length c = search needs

@@ -1,6 +1,6 @@
 -- `put_signed` is right because the number's magnitude is put, and a minus sign before it where the number is below zero.
 use mathlib.Core.Bool.{true≢false}
-use mathlib.Core.Path.{_≡_, sym, _∙_}
+use mathlib.Core.Path.{_≡_, refl, sym, _∙_}
 use mathlib.Core.List.{List, [], _∷_, _++_}
 use Prim.Native.Nat.{ℕ, _+_, _≤_}
 use native.Mathlib.Omega.{arith}
@@ -73,12 +73,16 @@ same-length : tie.Need-same-length
 same-length c = c .before .before .put-field .kept .1 .1 .1 .0 ∙ simp length-set
 
 returns : tie.Need-returns
-returns c = let h = c .before .before .before .before in let b = h .before .before .before in let m = b .before in
-    λ fits. with-sign (m .before .before .args .x) _ (size m) _ _ _ (below b) (omega (arith, room h)) (omega arith) (omega arith) (omega arith) (c .before .before .put-field .ensures)
+returns c = let h = c .before .before .before .before in let b = h .before .before .before in let m = b .before in (
+  λ fits. with-sign (m .before .before .args .x) _ (size m) _ _ _ (below b) (omega (arith, room h)) (omega arith) (omega arith) (omega arith) (c .before .before .put-field .ensures),
+  λ none. absurd (omega (arith, room h, below-length (m .before .before .args .x) _ (size m) (below b), h .before .before .count-digits .ensures)),
+)
 
 returns-2 : tie.Need-returns-2
-returns-2 c = let d = c .before .before in let m = d .before .before in
-    λ fits. absurd (true≢false (sym (c .before .has-room .ensures .1 (omega (arith, below-length (m .before .before .args .x) _ (size m) (below (d .before)), d .count-digits .ensures))) ∙ c .if2 .left))
+returns-2 c = let d = c .before .before in let m = d .before .before in (
+  λ fits. absurd (true≢false (sym (c .before .has-room .ensures .1 (omega (arith, below-length (m .before .before .args .x) _ (size m) (below (d .before)), d .count-digits .ensures))) ∙ c .if2 .left)),
+  λ none. (refl, refl),
+)
 
 put-decimal-requires : tie.Need-put-decimal-requires
 put-decimal-requires c κs = tt
@@ -88,7 +92,10 @@ same-length-2 c = c .before .before .put-decimal .kept .1 .1 .0
 
 returns-3 : tie.Need-returns-3
 returns-3 c = let b = c .before .before .before .before in let m = b .before in let x = m .before .before .args .x in
-    λ fits. without-sign x _ (size m) (from-zero b) (c .before .before .put-decimal .ensures (omega (arith, from-zero-length x _ (size m) (from-zero b))))
+    let same = from-zero-length x _ (size m) (from-zero b) in (
+      λ fits. without-sign x _ (size m) (from-zero b) (c .before .before .put-decimal .ensures .0 (omega (arith, same))),
+      λ none. c .before .before .put-decimal .ensures .1 (omega (arith, same)),
+    )
 
 pub put-signed-spec : {M : Type 1} → statement M
 put-signed-spec =
