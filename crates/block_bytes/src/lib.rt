@@ -36,7 +36,7 @@ pub fn forward(bytes: &mut [u8]) -> u64
     forward_large(bytes, samples)
 }
 
-// Forward of few cells. The lengths that blocks have are named, so that the compiler works such a block in registers.
+// Forward of few cells. Lengths 2, 4 and 8 are named, so that the compiler works such a block in registers.
 fn forward_short(bytes: &mut [u8], samples: usize) -> u64
     requires { ⌜ (samples ≡ cellCount (CELL * LARGEST) (length (now bytes))) × (samples ≤ SMALL) ⌝ }
     ensures { λ r. ⌜ ForwardAnswered (now (bytes .entry)) (now (bytes .exit)) r ⌝ }
@@ -94,58 +94,58 @@ fn forward_in(bytes: &mut [u8], cells: &mut [i64]) -> u64
 pub fn backward(bytes: &mut [u8]) -> u64
     ensures { λ r. ⌜ BackwardAnswered (now (bytes .entry)) (now (bytes .exit)) r ⌝ }
 {
-    let lines = cell_bytes::cell_count(CELL * BlockKind::LARGEST, bytes.len());
-    if lines <= SMALL {
-        return backward_short(bytes, lines);
+    let len = cell_bytes::cell_count(CELL * BlockKind::LARGEST, bytes.len());
+    if len <= SMALL {
+        return backward_short(bytes, len);
     }
-    if lines <= MIDDLE {
-        return backward_middle(bytes, lines);
+    if len <= MIDDLE {
+        return backward_middle(bytes, len);
     }
-    backward_large(bytes, lines)
+    backward_large(bytes, len)
 }
 
-// Backward of few cells. The lengths that blocks have are named, so that the compiler works such a block in registers.
-fn backward_short(bytes: &mut [u8], lines: usize) -> u64
-    requires { ⌜ (lines ≡ cellCount (CELL * LARGEST) (length (now bytes))) × (lines ≤ SMALL) ⌝ }
+// Backward of few cells. Lengths 2, 4 and 8 are named, so that the compiler works such a block in registers.
+fn backward_short(bytes: &mut [u8], len: usize) -> u64
+    requires { ⌜ (len ≡ cellCount (CELL * LARGEST) (length (now bytes))) × (len ≤ SMALL) ⌝ }
     ensures { λ r. ⌜ BackwardAnswered (now (bytes .entry)) (now (bytes .exit)) r ⌝ }
 {
-    match lines {
+    match len {
         2 => backward_small(bytes, 2),
         4 => backward_small(bytes, 4),
         8 => backward_small(bytes, 8),
-        _ => backward_small(bytes, lines),
+        _ => backward_small(bytes, len),
     }
 }
 
 // Backward in a small room, which decoding fills from its front on.
-fn backward_small(bytes: &mut [u8], lines: usize) -> u64
-    requires { ⌜ (lines ≡ cellCount (CELL * LARGEST) (length (now bytes))) × (lines ≤ SMALL) ⌝ }
+fn backward_small(bytes: &mut [u8], len: usize) -> u64
+    requires { ⌜ (len ≡ cellCount (CELL * LARGEST) (length (now bytes))) × (len ≤ SMALL) ⌝ }
     ensures { λ r. ⌜ BackwardAnswered (now (bytes .entry)) (now (bytes .exit)) r ⌝ }
 {
     let mut room = [0i64; SMALL];
-    let cells = &mut room[..lines];
+    let cells = &mut room[..len];
     read_cells(bytes, cells);
     backward_in(bytes, cells)
 }
 
 // Backward in a middle room.
-fn backward_middle(bytes: &mut [u8], lines: usize) -> u64
-    requires { ⌜ (lines ≡ cellCount (CELL * LARGEST) (length (now bytes))) × (lines ≤ MIDDLE) ⌝ }
+fn backward_middle(bytes: &mut [u8], len: usize) -> u64
+    requires { ⌜ (len ≡ cellCount (CELL * LARGEST) (length (now bytes))) × (len ≤ MIDDLE) ⌝ }
     ensures { λ r. ⌜ BackwardAnswered (now (bytes .entry)) (now (bytes .exit)) r ⌝ }
 {
     let mut room = [0i64; MIDDLE];
-    let cells = &mut room[..lines];
+    let cells = &mut room[..len];
     read_cells(bytes, cells);
     backward_in(bytes, cells)
 }
 
 // Backward in room for every block.
-fn backward_large(bytes: &mut [u8], lines: usize) -> u64
-    requires { ⌜ (lines ≡ cellCount (CELL * LARGEST) (length (now bytes))) × (lines ≤ LARGEST) ⌝ }
+fn backward_large(bytes: &mut [u8], len: usize) -> u64
+    requires { ⌜ (len ≡ cellCount (CELL * LARGEST) (length (now bytes))) × (len ≤ LARGEST) ⌝ }
     ensures { λ r. ⌜ BackwardAnswered (now (bytes .entry)) (now (bytes .exit)) r ⌝ }
 {
     let mut room = [0i64; BlockKind::LARGEST];
-    let cells = &mut room[..lines];
+    let cells = &mut room[..len];
     read_cells(bytes, cells);
     backward_in(bytes, cells)
 }

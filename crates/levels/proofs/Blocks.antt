@@ -101,7 +101,7 @@ module _ {s : ℕ} {half : ℤ} {l : ℕ} {quarter : List ℕ} (S : Serves s hal
     some = pow-pos l;
     long = long;
     apart = 2 ^ (8 - S .t);
-    turn = rw (e, strides-all) (quarter-turn (S .t) (S .most));
+    spans = rw (e, strides-all) (quarter-turn (S .t) (S .most));
     at-quarter = S .at-quarter ∙ ap (λ (m : ℕ). tabulate (m + 1) (λ j. quarterTable s (j * 2 ^ (8 - S .t)))) (sym (ap (λ (k : ℕ). 2 ^ l * k) e ∙ strides-all));
     room = room;
   }

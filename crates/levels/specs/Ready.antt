@@ -11,7 +11,8 @@ use Rattle.pair.specs.Pair.{Scale}
 use Rattle.spectrum.specs.Limits.{Room}
 use Rattle.spectrum.specs.Spectrum.{levelsAt}
 
--- what a cell may be before the first levels of two or four cells, which need no product and so no scale: it has room at every scale from 2^4 on
+-- what a cell may be before the first levels of two or four cells, which need no product and so no scale; a cell that has room at a scale of 2^4 or more is
+-- not above this
 abbrev pub LARGEST-FIRST : ℕ
 LARGEST-FIRST = 2 ^ 57
 
@@ -33,7 +34,7 @@ pub record Ready (s : ℕ) (half : ℤ) (L : ℕ) (quarter : List ℕ) (xs : Lis
   pub whole : length xs % 2 ^ L ≡ 0
   pub room : (l : ℕ) → l < L → (i : ℕ) → Room s (cell (levelsAt s l xs) i)
 
--- a level over halves of n cells can run: line v takes entry v × stride, and all of them make half of n
+-- a level over halves of n cells can run: line v takes entry v × stride, and n/2 strides make the whole quarter
 pub record LevelReady (s : ℕ) (half : ℤ) (n stride : ℕ) (quarter : List ℕ) (xs : List ℤ) : Type 0 where
   pub l : ℕ
   pub table : Serves s half (suc (suc l)) quarter

@@ -17,7 +17,7 @@ pub fn join_levels(cells: &mut [i64], quarter: &[u32], digits: usize, half: i64,
     join_later_levels(cells, quarter, digits, half, p);
 }
 
-// Levels 1 to 3 of each eight cells, which take the quarter's ends and its middle.
+// Levels 1 to 3 of each eight cells, by the middle of the quarter; with its ends that is a table of three entries.
 fn join_first_levels(cells: &mut [i64], quarter: &[u32], digits: usize, half: i64)
     requires { ⌜ Ready digits half 3 (now quarter) (now cells) ⌝ }
     ensures { λ _. ⌜ now (cells .exit) ≡ levelsAt digits 3 (now (cells .entry)) ⌝ }

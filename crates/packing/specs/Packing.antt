@@ -53,7 +53,7 @@ unpackedTrace answer = cond (eqb (numberIn answer) 0) (rateIn answer ∷ pIn ans
 
 -- ---- what can be packed
 
--- a refusal's place fits its bytes
+-- a refusal's place is one of a trace or of a block
 abbrev pub Packable : Answer → Type 0
 Packable Done = Unit {0}
 Packable (Refused refusal) = place refusal ≤ LONGEST

@@ -44,7 +44,7 @@ module _ {s : ℕ} {half : ℤ} {stride : ℕ} {quarter : List ℕ} {xs : List �
   whole = omega (arith, J .long)
 
   quarter-turn : k * g ≡ 256
-  quarter-turn = omega (arith, J .turn)
+  quarter-turn = omega (arith, J .spans)
 
   pub entries-many : length quarter ≡ J .k * stride + 1
   entries-many = ap length (J .at-quarter) ∙ length-tabulate (k * stride + 1) _

@@ -25,14 +25,15 @@ pub record Scale (s : ℕ) (half : ℤ) : Type 0 where
   pub most : s ≤ 22
   pub halved : half ≡ pos (2 ^ s / 2)
 
--- a pair of 4 k cells can be joined: line v takes entry v × stride of the quarter's cosines, whose neighbours are `apart` steps of the turn apart
+-- a pair of 4 k cells can be joined: line v takes entry v × stride of the quarter's cosines, whose neighbours are `apart`
+-- steps of the turn apart, and which span a quarter of it
 pub record Joinable (s : ℕ) (half : ℤ) (stride : ℕ) (quarter : List ℕ) (xs : List ℤ) : Type 0 where
   pub scale : Scale s half
   pub k : ℕ
   pub some : 0 < k
   pub long : length xs ≡ 4 * k
   pub apart : ℕ
-  pub turn : k * stride * apart ≡ 256
+  pub spans : k * stride * apart ≡ 256
   pub at-quarter : quarter ≡ tabulate (k * stride + 1) (λ j. quarterTable s (j * apart))
   pub room : (i : ℕ) → Room s (cell xs i)
 
@@ -40,14 +41,14 @@ pub record Joinable (s : ℕ) (half : ℤ) (stride : ℕ) (quarter : List ℕ) (
 abbrev pub split : List ℤ → ℕ → ℕ → ℤ → List ℤ
 split xs n v q = set (set xs v (cell xs v +ℤ q)) (n + v) (cell xs v -ℤ q)
 
--- the rounded quotient of two products
+-- the rounded quotient of two products, that of a cell with the cosine and that of the mirrored cell with the sine
 abbrev pub turned : ℕ → ℤ → ℤ → ℤ → ℤ → ℤ
-turned s b mirror c d = rounded (2 ^ s) (b *ℤ c +ℤ mirror *ℤ d)
+turned s b mirrored cosine sine = rounded (2 ^ s) (b *ℤ cosine +ℤ mirrored *ℤ sine)
 
 -- lines v, n − v, n + v and 2n − v, of the same four cells
 abbrev pub quadded : ℕ → ℕ → ℕ → ℤ → ℤ → List ℤ → List ℤ
-quadded s n v c d xs = let b = cell xs (n + v) in let mirror = cell xs (n + (n - v)) in
-    split (split xs n v (turned s b mirror c d)) n (n - v) (turned s b mirror d (negℤ c))
+quadded s n v cosine sine xs = let b = cell xs (n + v) in let mirrored = cell xs (n + (n - v)) in
+    split (split xs n v (turned s b mirrored cosine sine)) n (n - v) (turned s b mirrored sine (negℤ cosine))
 
 -- they can be made
 pub record Quad (s : ℕ) (half : ℤ) (n v : ℕ) (c d : ℤ) (xs : List ℤ) : Type 0 where

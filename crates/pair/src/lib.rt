@@ -19,9 +19,9 @@ pub fn join(cells: &mut [i64], quarter: &[u32], digits: usize, half: i64, stride
     let mut v = 1;
     let mut entry = stride;
     while v < n / 2 {
-        let c = wide(quarter[entry]);
-        let s = wide(quarter[last - entry]);
-        join_quad(cells, n, v, c, s, digits, half);
+        let cosine = wide(quarter[entry]);
+        let sine = wide(quarter[last - entry]);
+        join_quad(cells, n, v, cosine, sine, digits, half);
         v += 1;
         entry += stride;
     }
@@ -38,16 +38,24 @@ pub fn join_plain(cells: &mut [i64], n: usize, v: usize)
     put_both(cells, n, v, b);
 }
 
-// Lines v, n - v, n + v and 2n - v, by line v's cosine c and sine s. For line n - v the two cells change places; its cosine is -c and its sine s.
-fn join_quad(cells: &mut [i64], n: usize, v: usize, c: i64, s: i64, digits: usize, half: i64)
-    requires { ⌜ Quad digits half n v c s (now cells) ⌝ }
-    ensures { λ _. ⌜ now (cells .exit) ≡ quadded digits n v c s (now (cells .entry)) ⌝ }
+// Lines v, n - v, n + v and 2n - v, by line v's cosine and sine. For line n - v the two cells change places, and the cosine its sign.
+fn join_quad(
+    cells: &mut [i64],
+    n: usize,
+    v: usize,
+    cosine: i64,
+    sine: i64,
+    digits: usize,
+    half: i64,
+)
+    requires { ⌜ Quad digits half n v cosine sine (now cells) ⌝ }
+    ensures { λ _. ⌜ now (cells .exit) ≡ quadded digits n v cosine sine (now (cells .entry)) ⌝ }
 {
     let mirror = n - v;
     let b = cells[n + v];
-    let d = cells[n + mirror];
-    let q = ints::rounded(digits, half, sum_of_products(b, d, c, s));
-    let r = ints::rounded(digits, half, sum_of_products(b, d, s, -c));
+    let mirrored = cells[n + mirror];
+    let q = ints::rounded(digits, half, sum_of_products(b, mirrored, cosine, sine));
+    let r = ints::rounded(digits, half, sum_of_products(b, mirrored, sine, -cosine));
     put_both(cells, n, v, q);
     put_both(cells, n, mirror, r);
 }
@@ -63,11 +71,11 @@ fn put_both(cells: &mut [i64], n: usize, v: usize, q: i64)
 }
 
 // The sum of both products of a line.
-fn sum_of_products(b: i64, mirror: i64, cosine: i64, sine: i64) -> i64
-    requires { ⌜ (natAbs b * natAbs cosine ≤ LARGEST-PRODUCT) × (natAbs mirror * natAbs sine ≤ LARGEST-PRODUCT) ⌝ }
-    ensures { λ r. ⌜ (r ≡ b *ℤ cosine +ℤ mirror *ℤ sine) × (natAbs r ≤ LARGEST-SUM) ⌝ }
+fn sum_of_products(b: i64, mirrored: i64, cosine: i64, sine: i64) -> i64
+    requires { ⌜ (natAbs b * natAbs cosine ≤ LARGEST-PRODUCT) × (natAbs mirrored * natAbs sine ≤ LARGEST-PRODUCT) ⌝ }
+    ensures { λ r. ⌜ (r ≡ b *ℤ cosine +ℤ mirrored *ℤ sine) × (natAbs r ≤ LARGEST-SUM) ⌝ }
 {
-    b * cosine + mirror * sine
+    b * cosine + mirrored * sine
 }
 
 // An entry of a table as a signed number.

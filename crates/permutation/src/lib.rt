@@ -6,8 +6,8 @@ ghost use lib.ListN.{length};
 ghost use Rattle.spectrum.specs.Levels.{permuted, reversed};
 ghost use Rattle.permutation.specs.Inner.{exchanged, fourExchanged};
 
-// Brings each cell to the place whose p digits are those of its moment reversed. Four places at a time differ in their first and last digit alone, and
-// the digits between are u's in two of them and u's reversed in their partners; so one count in reversed digits serves all four.
+// Brings each cell to the place whose p digits are those of its moment reversed. For each u the places 2u, 2u + 1, half + 2u and half + 2u + 1 have u's
+// digits between their first and last; their partners have these reversed, so one count in reversed digits serves all four.
 pub fn permute(cells: &mut [i64], p: usize)
     requires { ⌜ (2 ≤ p) × (p ≤ 10) × (length (now cells) ≡ 2 ^ p) ⌝ }
     ensures { λ _. ⌜ now (cells .exit) ≡ permuted p (now (cells .entry)) ⌝ }

@@ -18,7 +18,7 @@ pub fn quarter_table() -> [u32; 257]
 }
 
 // Each sixteenth entry of it, T(0), T(16), .., T(256): what blocks of up to 64 cells need. A table that is a constant is set up anew in each call, and
-// for a small block all 257 entries would take longer than its levels.
+// all 257 entries are a good part of what a block of 16 cells takes.
 pub fn coarse_table() -> [u32; 17]
     ensures { λ t. ⌜ t ≡ tabulate 17 (λ j. quarterTable SCALE-DIGITS (j * 16)) ⌝ }
 {

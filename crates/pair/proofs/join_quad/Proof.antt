@@ -51,22 +51,22 @@ abbrev start : tie.After-rounded → tie.Start
 start c = c .before .before .before .before
 
 first-is : (c : tie.After-rounded) → let a = start c .args in
-    c .rounded .result ≡ turned (a .digits) (cell (now (a .cells)) (a .n + a .v)) (cell (now (a .cells)) (a .n + (a .n - a .v))) (a .c) (a .s)
+    c .rounded .result ≡ turned (a .digits) (cell (now (a .cells)) (a .n + a .v)) (cell (now (a .cells)) (a .n + (a .n - a .v))) (a .cosine) (a .sine)
 first-is c = let s = start c in let a = s .args in let p = s .pre in let z = c .before .sum-of-products in
     c .rounded .ensures ∙ ap (rounded (2 ^ a .digits)) (small-back (z .result) (z .ensures .1) ∙ z .ensures .0
-    ∙ rw (room-back (a .digits) (cell (now (a .cells)) (a .n + a .v)) (p .second), room-back (a .digits) (cell (now (a .cells)) (a .n + (a .n - a .v))) (p .second-mirror), toZ-ofZ (s .fits .c), toZ-ofZ (s .fits .s)) refl)
+    ∙ rw (room-back (a .digits) (cell (now (a .cells)) (a .n + a .v)) (p .second), room-back (a .digits) (cell (now (a .cells)) (a .n + (a .n - a .v))) (p .second-mirror), toZ-ofZ (s .fits .cosine), toZ-ofZ (s .fits .sine)) refl)
 
 second-is : (c : tie.After-rounded2) → let a = start (c .before .before) .args in
-    c .rounded2 .result ≡ turned (a .digits) (cell (now (a .cells)) (a .n + a .v)) (cell (now (a .cells)) (a .n + (a .n - a .v))) (a .s) (negℤ (a .c))
+    c .rounded2 .result ≡ turned (a .digits) (cell (now (a .cells)) (a .n + a .v)) (cell (now (a .cells)) (a .n + (a .n - a .v))) (a .sine) (negℤ (a .cosine))
 second-is c = let s = start (c .before .before) in let a = s .args in let p = s .pre in let z = c .before .sum-of-products2 in
     c .rounded2 .ensures ∙ ap (rounded (2 ^ a .digits)) (small-back (z .result) (z .ensures .1) ∙ z .ensures .0
     ∙ rw (
       room-back (a .digits) (cell (now (a .cells)) (a .n + a .v)) (p .second),
       room-back (a .digits) (cell (now (a .cells)) (a .n + (a .n - a .v))) (p .second-mirror),
-      toZ-ofZ (s .fits .c),
-      toZ-ofZ (s .fits .s),
-      toZ-ofZ (minus-fits (a .digits) (a .c) (p .scale .most) (p .cosine)),
-      minus-is (a .c),
+      toZ-ofZ (s .fits .cosine),
+      toZ-ofZ (s .fits .sine),
+      toZ-ofZ (minus-fits (a .digits) (a .cosine) (p .scale .most) (p .cosine)),
+      minus-is (a .cosine),
     ) refl)
 
 read-small : (z : ℤ) → natAbs z ≤ LARGEST-SUM → natAbs (toZ w64 (ofZ w64 z)) ≤ LARGEST-SUM
@@ -109,32 +109,32 @@ mul-b c = search needs
 slice-copy-out-b : tie.Need-slice-copy-out-b
 slice-copy-out-b c = search needs
 
-add-d : tie.Need-add-d
-add-d c = search needs
+add-mirrored : tie.Need-add-mirrored
+add-mirrored c = search needs
 
-mul-d : tie.Need-mul-d
-mul-d c = search needs
+mul-mirrored : tie.Need-mul-mirrored
+mul-mirrored c = search needs
 
-slice-copy-out-d : tie.Need-slice-copy-out-d
-slice-copy-out-d c = search needs
+slice-copy-out-mirrored : tie.Need-slice-copy-out-mirrored
+slice-copy-out-mirrored c = search needs
 
 sum-of-products-requires : tie.Need-sum-of-products-requires
 sum-of-products-requires c κs = let s = c .before .before in let a = s .args in let p = s .pre in (
-  product-small (a .digits) (cell (now (a .cells)) (a .n + a .v)) (toZ w64 (ofZ w64 (a .c))) (p .second) (rw (toZ-ofZ (s .fits .c)) (p .cosine)),
-  product-small (a .digits) (cell (now (a .cells)) (a .n + (a .n - a .v))) (toZ w64 (ofZ w64 (a .s))) (p .second-mirror) (rw (toZ-ofZ (s .fits .s)) (p .sine)),
+  product-small (a .digits) (cell (now (a .cells)) (a .n + a .v)) (toZ w64 (ofZ w64 (a .cosine))) (p .second) (rw (toZ-ofZ (s .fits .cosine)) (p .cosine)),
+  product-small (a .digits) (cell (now (a .cells)) (a .n + (a .n - a .v))) (toZ w64 (ofZ w64 (a .sine))) (p .second-mirror) (rw (toZ-ofZ (s .fits .sine)) (p .sine)),
 )
 
 rounded-requires : tie.Need-rounded-requires
 rounded-requires c κs = let t = c .before .before .before in (halved (t .pre .scale) _ (toZ-ofZ (t .fits .half)), read-small (c .sum-of-products .result) (c .sum-of-products .ensures .1))
 
 sub-sum-of-products : tie.Need-sub-sum-of-products
-sub-sum-of-products c = let s = start c in rw (toZ-ofZ (s .fits .c)) (minus-fits (s .args .digits) (s .args .c) (s .pre .scale .most) (s .pre .cosine))
+sub-sum-of-products c = let s = start c in rw (toZ-ofZ (s .fits .cosine)) (minus-fits (s .args .digits) (s .args .cosine) (s .pre .scale .most) (s .pre .cosine))
 
 sum-of-products-requires-2 : tie.Need-sum-of-products-requires-2
 sum-of-products-requires-2 c κs = let s = start c in let a = s .args in let p = s .pre in (
-  product-small (a .digits) (cell (now (a .cells)) (a .n + a .v)) (toZ w64 (ofZ w64 (a .s))) (p .second) (rw (toZ-ofZ (s .fits .s)) (p .sine)),
-  product-small (a .digits) (cell (now (a .cells)) (a .n + (a .n - a .v))) (toZ w64 (ofZ w64 (pos 0 -ℤ toZ w64 (ofZ w64 (a .c))))) (p .second-mirror)
-      (rw (toZ-ofZ (s .fits .c), toZ-ofZ (minus-fits (a .digits) (a .c) (p .scale .most) (p .cosine))) (minus-size (a .digits) (a .c) (p .cosine))),
+  product-small (a .digits) (cell (now (a .cells)) (a .n + a .v)) (toZ w64 (ofZ w64 (a .sine))) (p .second) (rw (toZ-ofZ (s .fits .sine)) (p .sine)),
+  product-small (a .digits) (cell (now (a .cells)) (a .n + (a .n - a .v))) (toZ w64 (ofZ w64 (pos 0 -ℤ toZ w64 (ofZ w64 (a .cosine))))) (p .second-mirror)
+      (rw (toZ-ofZ (s .fits .cosine), toZ-ofZ (minus-fits (a .digits) (a .cosine) (p .scale .most) (p .cosine))) (minus-size (a .digits) (a .cosine) (p .cosine))),
 )
 
 rounded-requires-2 : tie.Need-rounded-requires-2
@@ -165,9 +165,9 @@ join-quad-spec =
     add-b
     mul-b
     slice-copy-out-b
-    add-d
-    mul-d
-    slice-copy-out-d
+    add-mirrored
+    mul-mirrored
+    slice-copy-out-mirrored
     sum-of-products-requires
     rounded-requires
     sub-sum-of-products

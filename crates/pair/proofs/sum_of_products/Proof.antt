@@ -26,25 +26,25 @@ mul-result : tie.Need-mul-result
 mul-result c = let a = c .args in let f = c .fits in rw (toZ-ofZ (f .b), toZ-ofZ (f .cosine)) (product-fits (a .b) (a .cosine) (c .pre .0))
 
 mul-result-2 : tie.Need-mul-result-2
-mul-result-2 c = let a = c .args in let f = c .fits in rw (toZ-ofZ (f .mirror), toZ-ofZ (f .sine)) (product-fits (a .mirror) (a .sine) (c .pre .1))
+mul-result-2 c = let a = c .args in let f = c .fits in rw (toZ-ofZ (f .mirrored), toZ-ofZ (f .sine)) (product-fits (a .mirrored) (a .sine) (c .pre .1))
 
 add-result : tie.Need-add-result
 add-result c = let a = c .args in let f = c .fits in
-    rw (toZ-ofZ (f .b), toZ-ofZ (f .cosine), toZ-ofZ (f .mirror), toZ-ofZ (f .sine), toZ-ofZ (product-fits (a .b) (a .cosine) (c .pre .0)), toZ-ofZ (product-fits (a .mirror) (a .sine) (c .pre .1)))
-    (sum-fits (a .b) (a .cosine) (a .mirror) (a .sine) (c .pre .0) (c .pre .1))
+    rw (toZ-ofZ (f .b), toZ-ofZ (f .cosine), toZ-ofZ (f .mirrored), toZ-ofZ (f .sine), toZ-ofZ (product-fits (a .b) (a .cosine) (c .pre .0)), toZ-ofZ (product-fits (a .mirrored) (a .sine) (c .pre .1)))
+    (sum-fits (a .b) (a .cosine) (a .mirrored) (a .sine) (c .pre .0) (c .pre .1))
 
 returns : tie.Need-returns
 returns c = let a = c .args in let f = c .fits in
     rw (
       toZ-ofZ (f .b),
       toZ-ofZ (f .cosine),
-      toZ-ofZ (f .mirror),
+      toZ-ofZ (f .mirrored),
       toZ-ofZ (f .sine),
       toZ-ofZ (product-fits (a .b) (a .cosine) (c .pre .0)),
-      toZ-ofZ (product-fits (a .mirror) (a .sine) (c .pre .1)),
-      toZ-ofZ (sum-fits (a .b) (a .cosine) (a .mirror) (a .sine) (c .pre .0) (c .pre .1)),
+      toZ-ofZ (product-fits (a .mirrored) (a .sine) (c .pre .1)),
+      toZ-ofZ (sum-fits (a .b) (a .cosine) (a .mirrored) (a .sine) (c .pre .0) (c .pre .1)),
     )
-    (refl, sum-size (a .b) (a .cosine) (a .mirror) (a .sine) (c .pre .0) (c .pre .1))
+    (refl, sum-size (a .b) (a .cosine) (a .mirrored) (a .sine) (c .pre .0) (c .pre .1))
 
 pub sum-of-products-spec : {M : Type 1} → statement M
 sum-of-products-spec = tie.close (tie.spec mul-result mul-result-2 add-result returns)

@@ -58,7 +58,7 @@ same-length c = search needs
 
 returns : tie.Need-returns
 returns c = let b = c .before .before .before .before in let t = b .before .before in let e = t .before .before in let a = e .before .before .args in
-    rw (lt-ltb (a .u) (a .r) (t .if1 .taken))
+    rw (lt-ltb (a .u) (a .r) (omega (arith, t .if1 .taken)))
     (c .before .exchange3 .ensures ∙ ap (exchanged (a .half + (2 * a .u + 1)) (a .half + (2 * a .r + 1))) (b .exchange2 .ensures ∙ ap (exchanged (2 * a .u) (2 * a .r)) (e .exchange .ensures)))
 
 same-length-2 : tie.Need-same-length-2
