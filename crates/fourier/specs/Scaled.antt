@@ -3,7 +3,7 @@
 use mathlib.Core.Path.{_≡_}
 use mathlib.Core.Bool.{Bool, true, false, cond}
 use mathlib.Core.List.{List, [], _∷_}
-use Prim.Native.Nat.{ℕ, _*_, _/_}
+use Prim.Native.Nat.{ℕ, _*_, _/_, _<_}
 use lib.Dec.{eqb}
 use lib.Ieee.{Float, fin, binary64, ofInt, mul, round}
 use lib.Ieee.Exact.{HasValue}
@@ -66,5 +66,5 @@ scaledNumbers (Refused refusal) = number refusal ∷ place refusal ∷ []
 abbrev pub Values : List ℤ → Line → ScaledLine → Type 0
 Values xs line (Mean mean) = (line .0 ≡ 0) × Exactly (H xs 0) (length xs) mean
 Values xs line (Last last) = (line .0 ≡ length xs / 2) × Exactly (H xs (length xs / 2)) (length xs) last
-Values xs line (Pair pair) = Exactly (doubledLine Real xs (line .0)) (2 * length xs) (pair .real) × Exactly (doubledLine Imaginary xs (line .0)) (2 * length xs) (pair .imaginary)
+Values xs line (Pair pair) = (0 < line .0) × (line .0 < length xs / 2) × Exactly (doubledLine Real xs (line .0)) (2 * length xs) (pair .real) × Exactly (doubledLine Imaginary xs (line .0)) (2 * length xs) (pair .imaginary)
 Values xs line (Refused refusal) = Unit

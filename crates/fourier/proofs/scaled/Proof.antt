@@ -29,7 +29,7 @@ module _ (xs : List ℤ) (line : Line) (kind : BlockKind) (e : testedLine line x
     numbers = ap scaledNumbers f ∙ no-numbers xs (line .0) ∙ sym (ap verdictNumbers e)
 
     exact : Values xs line r
-    exact = rw f (values accepted line)
+    exact = rw f (values accepted line (taken-line line xs kind e .1))
 
 tested-line-requires : tie.Need-tested-line-requires
 tested-line-requires c κs = tt
