@@ -2,4 +2,5 @@ pub mod Taken
 pub mod Limits
 pub mod Refused
 pub mod SamplesTaken
+pub mod InNumbers
 pub mod Negative

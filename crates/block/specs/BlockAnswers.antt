@@ -26,3 +26,8 @@ answerNumbers (Refused refusal) = number refusal ∷ place refusal ∷ []
 abbrev pub verdictNumbers : BlockVerdict → List ℕ
 verdictNumbers (Taken kind) = []
 verdictNumbers (BlockRefused refusal) = number refusal ∷ place refusal ∷ []
+
+-- and for what the tests say: P of a block that is taken, or number and place of the first fault
+abbrev pub blockNumbers : BlockVerdict → List ℕ
+blockNumbers (Taken kind) = kind .p ∷ []
+blockNumbers (BlockRefused refusal) = number refusal ∷ place refusal ∷ []

@@ -1,3 +1,4 @@
 pub mod Tests
+pub mod TestTable
 pub mod BlockAnswers
 pub mod Transformable

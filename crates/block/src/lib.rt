@@ -5,6 +5,8 @@ use kind::Line;
 use refusal::Refusal;
 ghost use mathlib.Core.Path.{_≡_};
 ghost use Rattle.block.specs.Tests.{firstLoud, misfit, tested, testedLine, testedSamples, testedSpectrum};
+ghost use Rattle.block.specs.TestTable.{lineNumbers, samplesNumbers, spectrumNumbers};
+ghost use Rattle.block.specs.BlockAnswers.{blockNumbers};
 
 // The least sample.
 const LEAST_SAMPLE: i64 = -32768;
@@ -29,21 +31,24 @@ pub enum BlockVerdict {
 
 // The kind of a block of samples, or its first fault.
 pub fn tested_samples(cells: &[i64]) -> BlockVerdict
-    ensures { λ r. ⌜ r ≡ testedSamples (now (cells .entry)) ⌝ }
+    ensures answer { λ r. ⌜ r ≡ testedSamples (now (cells .entry)) ⌝ }
+    ensures numbers { λ r. ⌜ blockNumbers r ≡ samplesNumbers (now (cells .entry)) ⌝ }
 {
     tested(LEAST_SAMPLE, LARGEST_SAMPLE, &[], cells)
 }
 
 // The kind of a spectrum, or the first fault of it and of the outputs that go with it: lists of so many cells, for lines 0 to N/2.
 pub fn tested_spectrum(outputs: &[usize], cells: &[i64]) -> BlockVerdict
-    ensures { λ r. ⌜ r ≡ testedSpectrum (now (outputs .entry)) (now (cells .entry)) ⌝ }
+    ensures answer { λ r. ⌜ r ≡ testedSpectrum (now (outputs .entry)) (now (cells .entry)) ⌝ }
+    ensures numbers { λ r. ⌜ blockNumbers r ≡ spectrumNumbers (now (outputs .entry)) (now (cells .entry)) ⌝ }
 {
     tested(-LOUDEST_LINE, LOUDEST_LINE, outputs, cells)
 }
 
 // The kind of a spectrum of which a line is asked, or the first fault.
 pub fn tested_line(line: Line, cells: &[i64]) -> BlockVerdict
-    ensures { λ r. ⌜ r ≡ testedLine line (now (cells .entry)) ⌝ }
+    ensures answer { λ r. ⌜ r ≡ testedLine line (now (cells .entry)) ⌝ }
+    ensures numbers { λ r. ⌜ blockNumbers r ≡ lineNumbers line (now (cells .entry)) ⌝ }
 {
     match tested_spectrum(&[], cells) {
         BlockVerdict::Refused(refusal) => BlockVerdict::Refused(refusal),

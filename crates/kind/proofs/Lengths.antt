@@ -2,6 +2,7 @@
 -- Example: `kind-length n P e .cells : n ≡ 2 ^ P`, with e : kindOf n ≡ Found (kindWith P).
 use mathlib.Core.Path.{_≡_, refl, sym, _∙_, ap}
 use mathlib.Core.Bool.{Bool, true, false, cond}
+use mathlib.Core.List.{List, [], _∷_}
 use Prim.Native.Nat.{ℕ, zero, suc, _^_, _≤_, _<_}
 use native.Mathlib.Omega.{arith}
 use borrow.Author.Tests.{eq-eqb, ne-eqb, eqb-true, ltb-true, ltb-false}
@@ -9,7 +10,7 @@ use lib.Dec.{eqb, ltb}
 use lib.Pow.{pow-lt}
 use Rattle.kind.specs.declared.KindFound.{KindFound}
 use Rattle.kind.specs.declared.KindFound.the-variants.{Found, None}
-use Rattle.kind.specs.BlockKinds.{kindWith, exponent, found, kindOf}
+use Rattle.kind.specs.BlockKinds.{kindWith, exponent, found, kindOf, kindNumbers, numbersIn, lengthNumbers}
 
 -- ---- the exponent
 
@@ -76,3 +77,20 @@ kind-given n P h = ap (λ (x : ℕ). found (exponent 10 x)) (h .cells) ∙ ap fo
 pub kind-none : (n : ℕ) → ((P : ℕ) → Kind-length n P → ⊥) → kindOf n ≡ None
 unfolding kindOf
 kind-none n h = ap found (exponent-none 10 n (λ P a b e. h P (record { least = a; most = b; cells = sym e })))
+
+-- ---- the kind in numbers, by the ten lengths
+
+in-numbers : (n : ℕ) → kindNumbers (kindOf n) ≡ lengthNumbers n
+unfolding kindOf numbersIn exponent
+in-numbers n = step 9 (step 8 (step 7 (step 6 (step 5 (step 4 (step 3 (step 2 (step 1 (step 0 refl)))))))))
+  where
+    either : (t : Bool) (m x : ℕ) {rest : List ℕ} → kindNumbers (found x) ≡ rest → kindNumbers (found (cond t (suc m) x)) ≡ cond t (suc m ∷ []) rest
+    either true m x e = refl
+    either false m x e = e
+
+    step : (m : ℕ) {rest : List ℕ} → kindNumbers (found (exponent m n)) ≡ rest → kindNumbers (found (exponent (suc m) n)) ≡ cond (eqb (2 ^ suc m) n) (suc m ∷ []) rest
+    step m e = either (eqb (2 ^ suc m) n) m (exponent m n) e
+
+-- an answer, and the same in numbers
+pub both-ways : {r : KindFound} (n : ℕ) → r ≡ kindOf n → (r ≡ kindOf n) × (kindNumbers r ≡ lengthNumbers n)
+both-ways n e = (e, ap kindNumbers e ∙ in-numbers n)

@@ -1,5 +1,6 @@
 -- Document 01: a block has 2^P cells, P from 1 to 10, and no other length. With the named constants of the block's kind.
 use mathlib.Core.Bool.{cond}
+use mathlib.Core.List.{List, [], _∷_}
 use Prim.Native.Nat.{ℕ, zero, suc, _^_}
 use lib.Dec.{eqb}
 use Rattle.kind.specs.declared.BlockKind.{BlockKind}
@@ -39,3 +40,23 @@ found (suc m) = Found (kindWith (suc m))
 unfoldable pub kindOf : ℕ → KindFound
 unfolding exponent
 kindOf n = found (exponent 10 n)
+
+-- ---- in document 01's numbers
+
+-- P for a kind; number and place of refusal 1 for none
+abbrev pub kindNumbers : KindFound → List ℕ
+kindNumbers (Found kind) = kind .p ∷ []
+kindNumbers None = 1 ∷ 0 ∷ []
+
+-- the lengths that a block can have, each with its P
+abbrev pub lengths : List (ℕ × ℕ)
+lengths = (1024, 10) ∷ (512, 9) ∷ (256, 8) ∷ (128, 7) ∷ (64, 6) ∷ (32, 5) ∷ (16, 4) ∷ (8, 3) ∷ (4, 2) ∷ (2, 1) ∷ []
+
+-- the P of n in such a list; number and place of refusal 1 where n is not there
+unfoldable pub numbersIn : List (ℕ × ℕ) → ℕ → List ℕ
+numbersIn [] n = 1 ∷ 0 ∷ []
+numbersIn (row ∷ rows) n = cond (eqb (row .0) n) (row .1 ∷ []) (numbersIn rows n)
+
+-- the same of a block of n cells
+abbrev pub lengthNumbers : ℕ → List ℕ
+lengthNumbers n = numbersIn lengths n

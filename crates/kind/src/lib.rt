@@ -1,6 +1,6 @@
 // The block's kind with its named constants, and the two counts that must not be mixed up: moments and lines.
 ghost use mathlib.Core.Path.{_≡_};
-ghost use Rattle.kind.specs.BlockKinds.{kindOf};
+ghost use Rattle.kind.specs.BlockKinds.{kindNumbers, kindOf, lengthNumbers};
 
 // A moment of a block, counted from 0 (document 01's t, the source's tau).
 pub struct Moment(pub usize);
@@ -31,7 +31,8 @@ impl BlockKind {
 
     // The kind of a block of len cells.
     pub fn of_len(len: usize) -> KindFound
-        ensures { λ r. ⌜ r ≡ kindOf len ⌝ }
+        ensures answer { λ r. ⌜ r ≡ kindOf len ⌝ }
+        ensures numbers { λ r. ⌜ kindNumbers r ≡ lengthNumbers len ⌝ }
     {
         let mut p = 1;
         let mut cells = 2;

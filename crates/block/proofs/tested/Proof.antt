@@ -75,22 +75,22 @@ misfit-requires c κs = tt
 
 returns : tie.Need-returns
 returns c = let m = c .before in let k = kind-at m in
-    misfits _ _ _ _ _ (k .before .before .of-len .ensures) (omega arith) _ (k .kind .given .1) (m .misfit .ensures) (omega arith) (c .if1 .taken)
+    misfits _ _ _ _ _ (k .before .before .of-len .ensures .0) (omega arith) _ (k .kind .given .1) (m .misfit .ensures) (omega arith) (c .if1 .taken)
 
 first-loud-requires : tie.Need-first-loud-requires
 first-loud-requires c κs = tt
 
 returns-2 : tie.Need-returns-2
-returns-2 c = first _ _ _ _ _ (c .before .before .of-len .ensures) (omega arith) _ (c .enum-told .given .1)
+returns-2 c = first _ _ _ _ _ (c .before .before .of-len .ensures .0) (omega arith) _ (c .enum-told .given .1)
 
 returns-3 : tie.Need-returns-3
 returns-3 c = let f = c .before in let m = outputs-at f in let k = kind-at m in
-    loud _ _ _ _ _ (k .before .before .of-len .ensures) (omega arith) _ (k .kind .given .1) (m .misfit .ensures) (omega arith) (f .before .if1 .left)
+    loud _ _ _ _ _ (k .before .before .of-len .ensures .0) (omega arith) _ (k .kind .given .1) (m .misfit .ensures) (omega arith) (f .before .if1 .left)
     (f .first-loud .ensures) (search needs) (search needs) _ (omega arith) (omega arith)
 
 returns-4 : tie.Need-returns-4
 returns-4 c = let f = c .before in let m = outputs-at f in let k = kind-at m in
-    quiet _ _ _ _ _ (k .before .before .of-len .ensures) (omega arith) _ (k .kind .given .1) (m .misfit .ensures) (omega arith) (f .before .if1 .left)
+    quiet _ _ _ _ _ (k .before .before .of-len .ensures .0) (omega arith) _ (k .kind .given .1) (m .misfit .ensures) (omega arith) (f .before .if1 .left)
     (f .first-loud .ensures) (search needs) (search needs) (omega arith)
 
 pub tested-spec : {M : Type 1} → statement M

@@ -15,6 +15,7 @@ use Rattle.block.specs.declared.BlockVerdict.the-variants.{Taken, Refuse
 use Rattle.kind.specs.declared.Line.{Line}
 use Rattle.refusal.specs.declared.Refusal.the-variants.{Line as LineAbove}
 use Rattle.block.specs.Tests.{refusedIf, testedSpectrum, testedLine}
+use Rattle.block.proofs.InNumbers.{line-both-ways}
 use Rattle.block.proofs.tested_line.Statement.{statement}
 use Rattle.block.proofs.tested_line.Tie as tie
 
@@ -46,13 +47,13 @@ enum-known-kind : tie.Need-enum-known-kind
 enum-known-kind c = c .match .keys2
 
 returns : tie.Need-returns
-returns c = first _ _ (c .before .before .before .tested-spectrum .ensures) _ (c .before .refusal .given .1)
+returns c = line-both-ways _ _ (first _ _ (c .before .before .before .tested-spectrum .ensures .0) _ (c .before .refusal .given .1))
 
 returns-2 : tie.Need-returns-2
-returns-2 c = let b = c .before .before .before in beyond _ _ (b .before .before .tested-spectrum .ensures) _ (b .kind .given .1) (omega arith)
+returns-2 c = let b = c .before .before .before in line-both-ways _ _ (beyond _ _ (b .before .before .tested-spectrum .ensures .0) _ (b .kind .given .1) (omega arith))
 
 returns-3 : tie.Need-returns-3
-returns-3 c = let b = c .before .before .before in within _ _ (b .before .before .tested-spectrum .ensures) _ (b .kind .given .1) (omega arith)
+returns-3 c = let b = c .before .before .before in line-both-ways _ _ (within _ _ (b .before .before .tested-spectrum .ensures .0) _ (b .kind .given .1) (omega arith))
 
 pub tested-line-spec : {M : Type 1} → statement M
 tested-line-spec =

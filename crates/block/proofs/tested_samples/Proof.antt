@@ -3,6 +3,7 @@ use borrow.Author.Needs.{needs}
 use Rattle.ints.proofs.Order.{equal}
 use Rattle.kind.specs.Loudness.{LEAST-SAMPLE, LARGEST-SAMPLE}
 use Rattle.block.proofs.Limits.{by-limits}
+use Rattle.block.proofs.InNumbers.{both-ways}
 use Rattle.block.proofs.tested_samples.Statement.{statement}
 use Rattle.block.proofs.tested_samples.Tie as tie
 
@@ -14,7 +15,7 @@ tested-requires c κs = tt
 
 returns : tie.Need-returns
 unfolding equal
-returns c = by-limits LEAST-SAMPLE LARGEST-SAMPLE _ _ _ _ (c .tested .ensures) tt tt
+returns c = both-ways _ _ _ _ (by-limits LEAST-SAMPLE LARGEST-SAMPLE _ _ _ _ (c .tested .ensures) tt tt)
 
 pub tested-samples-spec : {M : Type 1} → statement M
 tested-samples-spec = tie.close (tie.spec slice-aggregate-tested tested-requires returns)

@@ -4,6 +4,7 @@ use lib.IntN.{pos, negℤ}
 use Rattle.ints.proofs.Order.{equal}
 use Rattle.kind.specs.Loudness.{LOUDEST-LINE}
 use Rattle.block.proofs.Limits.{by-limits}
+use Rattle.block.proofs.InNumbers.{both-ways}
 use Rattle.block.proofs.tested_spectrum.Statement.{statement}
 use Rattle.block.proofs.tested_spectrum.Tie as tie
 
@@ -15,7 +16,7 @@ tested-requires c κs = tt
 
 returns : tie.Need-returns
 unfolding equal
-returns c = by-limits (negℤ (pos LOUDEST-LINE)) (pos LOUDEST-LINE) _ _ _ _ (c .tested .ensures) tt tt
+returns c = both-ways _ _ _ _ (by-limits (negℤ (pos LOUDEST-LINE)) (pos LOUDEST-LINE) _ _ _ _ (c .tested .ensures) tt tt)
 
 pub tested-spectrum-spec : {M : Type 1} → statement M
 tested-spectrum-spec = tie.close (tie.spec sub-tested tested-requires returns)

@@ -64,7 +64,7 @@ tests s = testedParts (now (s .args .spectrum)) (now (s .args .real)) (now (s .a
 
 taken : (c : tie.After-enum-told) → tests (c .before .before .before .before) ≡ Taken (c .enum-told .given .0 .0)
 taken c = let s = c .before .before .before .before in
-    found (now (s .args .spectrum)) (now (s .args .real)) (now (s .args .imaginary)) (c .before .before .tested-spectrum .ensures) (c .enum-told .given .1) (omega arith) (omega arith)
+    found (now (s .args .spectrum)) (now (s .args .real)) (now (s .args .imaginary)) (c .before .before .tested-spectrum .ensures .0) (c .enum-told .given .1) (omega arith) (omega arith)
 
 fill-requires : tie.Need-fill-requires
 fill-requires c κs = let s = c .before .before .before .before .before in let e = taken (c .before) in
@@ -75,7 +75,7 @@ fill-requires-2 c κs = let s = c .before .before .before .before .before .befor
     ((_, accepted _ (now (s .args .real)) (now (s .args .imaginary)) _ e), imaginary-fits _ (now (s .args .real)) (now (s .args .imaginary)) _ e)
 
 returns : tie.Need-returns
-returns c = let r = c .before in let e = r .before .before .tested-spectrum .ensures in
+returns c = let r = c .before in let e = r .before .before .tested-spectrum .ensures .0 in
     promised _ _ _ _ _ (found _ _ _ e (r .refusal .given .1) (search needs) (search needs)) refl refl (search needs) (search needs)
 
 same-length : tie.Need-same-length

@@ -51,14 +51,14 @@ enum-told c = c .match .keys2
 
 -- what the tests have found
 taken : (c : tie.After-enum-told) → let s = c .before .before .before .before in testedPower (now (s .args .spectrum)) (now (s .args .powers)) ≡ Taken (c .enum-told .given .0 .0)
-taken c = let s = c .before .before .before .before in found (now (s .args .spectrum)) (now (s .args .powers)) (c .before .before .tested-spectrum .ensures) (c .enum-told .given .1) (omega arith)
+taken c = let s = c .before .before .before .before in found (now (s .args .spectrum)) (now (s .args .powers)) (c .before .before .tested-spectrum .ensures .0) (c .enum-told .given .1) (omega arith)
 
 fill-powers-requires : tie.Need-fill-powers-requires
 fill-powers-requires c κs = let s = c .before .before .before .before .before in let e = taken (c .before) in
     ((_, accepted _ (now (s .args .powers)) _ e), power-fits _ (now (s .args .powers)) _ e)
 
 returns : tie.Need-returns
-returns c = let r = c .before in promised _ _ _ (found _ _ (r .before .before .tested-spectrum .ensures) (r .refusal .given .1) (search needs)) refl refl (search needs)
+returns c = let r = c .before in promised _ _ _ (found _ _ (r .before .before .tested-spectrum .ensures .0) (r .refusal .given .1) (search needs)) refl refl (search needs)
 
 same-length : tie.Need-same-length
 same-length c = c .before .fill-powers .kept .1 .0

@@ -42,10 +42,10 @@ enum-told c = c .match .keys2
 
 -- what the tests have found
 refused : (c : tie.After-refusal) → let s = c .before .before .before in testedLine (s .args .line) (now (s .args .spectrum)) ≡ BlockRefused (c .refusal .given .0 .0)
-refused c = sym (c .before .before .tested-line .ensures) ∙ c .refusal .given .1
+refused c = sym (c .before .before .tested-line .ensures .0) ∙ c .refusal .given .1
 
 taken : (c : tie.After-enum-told) → let s = c .before .before .before in testedLine (s .args .line) (now (s .args .spectrum)) ≡ Taken (c .enum-told .given .0 .0)
-taken c = sym (c .before .before .tested-line .ensures) ∙ c .enum-told .given .1
+taken c = sym (c .before .before .tested-line .ensures .0) ∙ c .enum-told .given .1
 
 scaled-line-requires : tie.Need-scaled-line-requires
 scaled-line-requires c κs = let s = c .before .before .before in let xs = now (s .args .spectrum) in

@@ -32,7 +32,7 @@ promised xs zs e a n z = let left : zs ≡ backwardLeft xs = z ∙ sym (ap (cell
 
 -- what `tested_spectrum` has found of the lent spectrum
 taken : (k : tie.After-kind) → testedSpectrum [] (now (k .before .before .before .before .before .args .cells)) ≡ Taken (k .kind .given .0 .0)
-taken k = sym (k .before .before .tested-spectrum .ensures) ∙ k .kind .given .1
+taken k = sym (k .before .before .tested-spectrum .ensures .0) ∙ k .kind .given .1
 
 -- the spectrum of cells that are taken can be divided: the magnitude law says how large its lines are
 can-divide : {P : ℕ} {xs ys : List ℤ} → Transformable P xs → ys ≡ forward P xs → CanDivide P ys
@@ -61,7 +61,7 @@ same-length : tie.Need-same-length
 same-length c = refl
 
 returns : tie.Need-returns
-returns c = promised _ _ (sym (c .before .before .before .tested-spectrum .ensures) ∙ c .before .refusal .given .1) refl refl refl
+returns c = promised _ _ (sym (c .before .before .before .tested-spectrum .ensures .0) ∙ c .before .refusal .given .1) refl refl refl
 
 same-length-2 : tie.Need-same-length-2
 same-length-2 c = c .before .divide .kept .0 ∙ c .before .before .before .before .transform .kept .0

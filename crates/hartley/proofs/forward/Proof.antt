@@ -47,7 +47,7 @@ refused xs ys zs refusal e g lent kept = promised xs zs (Refused refusal) (Block
 
 -- what `tested_samples` has found of the lent block
 taken : (k : tie.After-kind) → testedSamples (now (k .before .before .before .before .args .cells)) ≡ Taken (k .kind .given .0 .0)
-taken k = sym (k .before .before .tested-samples .ensures) ∙ k .kind .given .1
+taken k = sym (k .before .before .tested-samples .ensures .0) ∙ k .kind .given .1
 
 tested-samples-requires : tie.Need-tested-samples-requires
 tested-samples-requires c κs = tt
@@ -65,7 +65,7 @@ same-length : tie.Need-same-length
 same-length c = refl
 
 returns : tie.Need-returns
-returns c = refused _ _ _ _ (c .before .before .before .tested-samples .ensures) (c .before .refusal .given .1) (search needs) (search needs)
+returns c = refused _ _ _ _ (c .before .before .before .tested-samples .ensures .0) (c .before .refusal .given .1) (search needs) (search needs)
 
 same-length-2 : tie.Need-same-length-2
 same-length-2 c = c .before .transform .kept .0

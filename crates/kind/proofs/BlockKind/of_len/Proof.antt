@@ -10,7 +10,7 @@ use borrow.Author.Tests.{ltb-true, ltb-false}
 use lib.Dec.{ltb}
 use lib.Pow.{pow-mono}
 use Rattle.kind.specs.BlockKinds.{LARGEST}
-use Rattle.kind.proofs.Lengths.{kind-given, kind-none}
+use Rattle.kind.proofs.Lengths.{kind-given, kind-none, both-ways}
 use Rattle.kind.proofs.BlockKind.of_len.Statement.{statement}
 use Rattle.kind.proofs.BlockKind.of_len.Tie as tie
 
@@ -40,7 +40,7 @@ loop-holds c = (omega arith, omega arith, refl, λ q h k e. omega arith)
 
 returns : tie.Need-returns Inv-loop μ-loop
 returns c = let i = c .before .before .loop .inv in
-    sym (kind-given _ _ (record { least = i .0; most = within (c .before .before .loop .p) (omega arith); cells = sym (c .if1 .taken) ∙ i .2 }))
+    both-ways _ (sym (kind-given _ _ (record { least = i .0; most = within (c .before .before .loop .p) (omega arith); cells = sym (c .if1 .taken) ∙ i .2 })))
 
 mul-cells : tie.Need-mul-cells Inv-loop μ-loop
 mul-cells c = omega arith
@@ -57,7 +57,7 @@ loop-again c = let i = c .before .before .loop .inv in let p = c .before .before
 
 returns-2 : tie.Need-returns-2 Inv-loop μ-loop
 returns-2 c = let i = c .before .loop .inv in
-    sym (kind-none _ (λ P k. i .3 P (omega (arith, beyond (c .before .loop .p) (omega arith), k .most)) (k .least) (sym (k .cells))))
+    both-ways _ (sym (kind-none _ (λ P k. i .3 P (omega (arith, beyond (c .before .loop .p) (omega arith), k .most)) (k .least) (sym (k .cells)))))
 
 pub of-len-spec : {M : Type 1} → statement M
 of-len-spec = tie.close (tie.spec Inv-loop μ-loop loop-holds returns mul-cells add-p loop-less loop-again returns-2)
