@@ -1,6 +1,7 @@
 pub mod Taken
 pub mod Limits
 pub mod Refused
+pub mod FirstLoud
 pub mod SamplesTaken
 pub mod InNumbers
 pub mod Negative
