@@ -1,5 +1,5 @@
--- What is found of the fine cosines by computing, once over the quarter: their sum law and their sizes.
--- `quarter-sum j k hj hk` and `quarter-size j h` carry the one test to each step.
+-- What is found of the fine cosines by computing, once over the quarter: their sum law, their sizes and their squares.
+-- `quarter-sum j k hj hk`, `quarter-size j h` and `quarter-squares j h` carry the one test to each step.
 use mathlib.Core.Path.{_≡_, sym, _∙_, ap, fun-ext}
 use mathlib.Core.Bool.{Bool, true, false, not, _&&_}
 use mathlib.Core.List.{List, [], _∷_}
@@ -43,21 +43,28 @@ close a b z = cosine-close a b z && sine-close a b z
 sized : ℕ → ℕ → Bool
 sized c s = leb c (2 ^ 60) && leb (c + s) (92682 * 2 ^ 44)
 
+-- the squares of cosine and sine together are at most that of the scale, 2^120, and less than 3 × 2^60 from it
+squared : ℕ → ℕ → Bool
+squared c s = leb (c * c + s * s) (2 ^ 120) && ltb (2 ^ 120) (c * c + s * s + 3 * 2 ^ 60)
+
 sums : List ℕ → Bool
 sums q = triangle close (tabulate 256 (pair q)) (tabulate 256 (pair q)) (tabulate 512 (triple q))
 
 sizes : List ℕ → Bool
 sizes q = alongside sized (tabulate 257 (entries q)) (tabulate 257 (λ j. entries q (256 - j)))
 
+squares : List ℕ → Bool
+squares q = alongside squared (tabulate 257 (entries q)) (tabulate 257 (λ j. entries q (256 - j)))
+
 -- the fine cosines, listed, so that none is computed twice
 cosines : List ℕ
 cosines = tabulate 257 fine
 
-both : List ℕ → Bool
-both q = sums q && sizes q
+all : List ℕ → Bool
+all q = sums q && (sizes q && squares q)
 
-passed : T (both cosines)
-unfolding both sums sizes close cosine-close sine-close sized apart pair triple triangle tabulate cosines fine
+passed : T (all cosines)
+unfolding all sums sizes squares close cosine-close sine-close sized squared apart pair triple triangle tabulate cosines fine
 passed = tt
 
 -- ---- what it says at each step
@@ -67,12 +74,20 @@ unfolding cosines
 cosines-are = listed fine
 
 close-at : (j k : ℕ) → j < 256 → k < 256 → T (close (pair cosines j) (pair cosines k) (triple cosines (j + k)))
-unfolding both sums
-close-at j k hj hk = triangle-at close (pair cosines) (triple cosines) 256 512 (and-l (sums cosines) (sizes cosines) passed) j k hj hk
+unfolding all sums
+close-at j k hj hk = triangle-at close (pair cosines) (triple cosines) 256 512 (and-l (sums cosines) (sizes cosines && squares cosines) passed) j k hj hk
+
+sizes-and-squares : T (sizes cosines && squares cosines)
+unfolding all
+sizes-and-squares = and-r (sums cosines) (sizes cosines && squares cosines) passed
 
 sized-at : (j : ℕ) → j ≤ 256 → T (sized (entries cosines j) (entries cosines (256 - j)))
-unfolding both sizes
-sized-at j h = alongside-at sized (entries cosines) (λ j. entries cosines (256 - j)) 257 257 (and-r (sums cosines) (sizes cosines) passed) j (omega arith)
+unfolding sizes
+sized-at j h = alongside-at sized (entries cosines) (λ j. entries cosines (256 - j)) 257 257 (and-l (sizes cosines) (squares cosines) sizes-and-squares) j (omega arith)
+
+squared-at : (j : ℕ) → j ≤ 256 → T (squared (entries cosines j) (entries cosines (256 - j)))
+unfolding squares
+squared-at j h = alongside-at squared (entries cosines) (λ j. entries cosines (256 - j)) 257 257 (and-r (sizes cosines) (squares cosines) sizes-and-squares) j (omega arith)
 
 pub record Sized (c s : ℕ) : Type 0 where
   pub alone : c ≤ 2 ^ 60
@@ -87,6 +102,20 @@ of-sized c s t = record {
 
 pub quarter-size : (j : ℕ) → j ≤ 256 → Sized (fine j) (fine (256 - j))
 quarter-size j h = rw (cosines-are j h, cosines-are (256 - j) (omega arith)) at (of-sized _ _ (sized-at j h))
+
+-- ---- F(j)² + F(256 − j)² is at most 2^120 and nearly that, whatever law F was made by
+
+pub record Squared (c s : ℕ) : Type 0 where
+  pub most : c * c + s * s ≤ 2 ^ 120
+  pub near : 2 ^ 120 < c * c + s * s + 3 * 2 ^ 60
+
+of-squared : (c s : ℕ) → T (squared c s) → Squared c s
+unfolding squared
+of-squared c s t = let most = leb (c * c + s * s) (2 ^ 120) in let near = ltb (2 ^ 120) (c * c + s * s + 3 * 2 ^ 60) in
+    record { most = leb→le _ _ (and-l most near t); near = ltb→lt _ _ (and-r most near t) }
+
+pub quarter-squares : (j : ℕ) → j ≤ 256 → Squared (fine j) (fine (256 - j))
+quarter-squares j h = rw (cosines-are j h, cosines-are (256 - j) (omega arith)) at (of-squared _ _ (squared-at j h))
 
 -- ---- the sum law in whole numbers: x and y of the sum, a and b of the one angle, p and r of the other
 

@@ -1,11 +1,11 @@
--- Document 01, Samples worked by hand: those with a star, as rows of one table; the third is as document 02, Item 1 amends it. That every row holds is
--- proved in proofs/RowsHold.antt.
+-- Document 01, Samples worked by hand: those with a star, as rows of one table; the third is as document 02, Item 1 amends it. After them two more for that
+-- item, and some fine cosines, worked by the rule of document 01, Cosines, apart from these definitions. That every row holds is proved in proofs/RowsHold.antt.
 use mathlib.Core.Path.{_≡_}
 use mathlib.Core.List.{List, [], _∷_, map}
 use lib.IntN.{ℤ, pos, negℤ, _*ℤ_}
 use Rattle.ints.specs.Quotient.{rounded}
 use Rattle.kind.specs.BlockKinds.{SCALE, SCALE-DIGITS}
-use Rattle.cosine.specs.Cosine.{quarterTable}
+use Rattle.cosine.specs.Cosine.{fine, quarterTable}
 use Rattle.spectrum.specs.Spectrum.{forward, backward}
 
 -- what a definition gives, and what the papers say that it gives
@@ -14,7 +14,7 @@ pub record Row : Type 0 where
   pub said : List ℤ
 
 unfoldable pub rows : List Row
-unfolding rounded quarterTable forward backward
+unfolding rounded fine quarterTable forward backward
 rows =
     -- T at 0, 64, 128, 192, 256
     record {
@@ -44,6 +44,11 @@ rows =
     -- and two by hand for document 02, Item 1: backward of {3, 0} divides 3 by 2 twice, of {-3, 0} minus 3
     ∷ record { given = backward 1 (pos 3 ∷ pos 0 ∷ []); said = pos 2 ∷ pos 2 ∷ [] }
     ∷ record { given = backward 1 (negℤ (pos 3) ∷ pos 0 ∷ []); said = negℤ (pos 2) ∷ negℤ (pos 2) ∷ [] }
+    -- and F at 1, 64, 128, 192, 255
+    ∷ record {
+      given = map (λ j. pos (fine j)) (1 ∷ 64 ∷ 128 ∷ 192 ∷ 255 ∷ []);
+      said = pos 1152899801185339686 ∷ pos 1065160580698383124 ∷ pos 815238614083298888 ∷ pos 441203958630471860 ∷ pos 7074193361797262 ∷ [];
+    }
     ∷ []
 
 -- every row's two sides are equal
