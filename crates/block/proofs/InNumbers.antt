@@ -17,7 +17,7 @@ use Rattle.refusal.specs.declared.Refusal.the-variants.{Length}
 use Rattle.refusal.specs.RefusalTable.{number, place}
 use Rattle.block.specs.declared.BlockVerdict.{BlockVerdict}
 use Rattle.block.specs.Tests.{misfit, firstLoud, tested, testedLine}
-use Rattle.block.specs.TestTable.{firstGiven, rows, lineNumbers}
+use Rattle.block.specs.TestTable.{firstGiven, refusalRows, lineNumbers}
 use Rattle.block.specs.BlockAnswers.{blockNumbers}
 
 -- what `kind` says in numerals of a length that no block has is refusal 1
@@ -31,7 +31,7 @@ positive m = ne-eqb (suc m) 0 (λ e. omega arith)
 
 module _ (low high : ℤ) (outputs : List ℕ) (xs : List ℤ) where
   by-three : (P : ℕ) (unfit loud : Bool) → exponent 10 (length xs) ≡ P → misfit (length xs / 2 + 1) outputs ≡ unfit → ltb (firstLoud low high xs) (length xs) ≡ loud
-      → blockNumbers (tested low high outputs xs) ≡ firstGiven (rows low high outputs xs) (exponent 10 (length xs))
+      → blockNumbers (tested low high outputs xs) ≡ firstGiven (refusalRows low high outputs xs) (exponent 10 (length xs))
   unfolding tested kindOf firstGiven
   by-three zero unfit loud e f g = rw e refl
   by-three (suc m) true true e f g = rw (e, positive m, g, f) refl
@@ -55,7 +55,7 @@ module _ (line : Line) (xs : List ℤ) where
 -- ---- an answer, and the same in numbers
 
 pub both-ways : {r : BlockVerdict} (low high : ℤ) (outputs : List ℕ) (xs : List ℤ) → r ≡ tested low high outputs xs
-    → (r ≡ tested low high outputs xs) × (blockNumbers r ≡ firstGiven (rows low high outputs xs) (exponent 10 (length xs)))
+    → (r ≡ tested low high outputs xs) × (blockNumbers r ≡ firstGiven (refusalRows low high outputs xs) (exponent 10 (length xs)))
 both-ways low high outputs xs e = (e, ap blockNumbers e ∙ by-three low high outputs xs _ _ _ refl refl refl)
 
 pub line-both-ways : {r : BlockVerdict} (line : Line) (xs : List ℤ) → r ≡ testedLine line xs → (r ≡ testedLine line xs) × (blockNumbers r ≡ lineNumbers line xs)

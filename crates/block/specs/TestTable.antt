@@ -11,28 +11,28 @@ use Rattle.kind.specs.BlockKinds.{exponent}
 use Rattle.block.specs.Tests.{misfit, firstLoud}
 
 -- a row of the table: whether the refusal is given, its number, its place
-abbrev pub Row : Type 0
-Row = Bool × ℕ × ℕ
+abbrev pub RefusalRow : Type 0
+RefusalRow = Bool × ℕ × ℕ
 
 -- number and place of the first row that is given, or P where none is
-unfoldable pub firstGiven : List Row → ℕ → List ℕ
+unfoldable pub firstGiven : List RefusalRow → ℕ → List ℕ
 firstGiven [] P = P ∷ []
 firstGiven (row ∷ rows) P = cond (row .0) (row .1 ∷ row .2 ∷ []) (firstGiven rows P)
 
 -- rows 1, 2 and 3, for cells of low to high and for outputs that should have N/2 + 1 cells each; `exponent` is 0 where no block has N cells
-abbrev pub rows : ℤ → ℤ → List ℕ → List ℤ → List Row
-rows low high outputs xs =
+abbrev pub refusalRows : ℤ → ℤ → List ℕ → List ℤ → List RefusalRow
+refusalRows low high outputs xs =
     let N = length xs in
     let place = firstLoud low high xs in
     (eqb (exponent 10 N) 0, 1, 0) ∷ (misfit (N / 2 + 1) outputs, 2, 0) ∷ (ltb place N, 3, place) ∷ []
 
 -- forward: cells of -32,768 to 32,767
 abbrev pub samplesNumbers : List ℤ → List ℕ
-samplesNumbers xs = firstGiven (rows (negℤ (pos 32768)) (pos 32767) [] xs) (exponent 10 (length xs))
+samplesNumbers xs = firstGiven (refusalRows (negℤ (pos 32768)) (pos 32767) [] xs) (exponent 10 (length xs))
 
 -- any call that takes a spectrum: cells within ±2^28
-abbrev pub spectrumRows : List ℕ → List ℤ → List Row
-spectrumRows outputs xs = rows (negℤ (pos (2 ^ 28))) (pos (2 ^ 28)) outputs xs
+abbrev pub spectrumRows : List ℕ → List ℤ → List RefusalRow
+spectrumRows outputs xs = refusalRows (negℤ (pos (2 ^ 28))) (pos (2 ^ 28)) outputs xs
 
 abbrev pub spectrumNumbers : List ℕ → List ℤ → List ℕ
 spectrumNumbers outputs xs = firstGiven (spectrumRows outputs xs) (exponent 10 (length xs))

@@ -2,24 +2,16 @@
 use mathlib.Core.Path.{_≡_}
 use mathlib.Core.List.{List, []}
 use Prim.Native.Nat.{ℕ}
-use lib.IntN.{ℤ}
+use Rattle.cell_bytes.specs.CellBytes.{cellsIn}
 use Rattle.block.specs.declared.BlockVerdict.{BlockVerdict}
-use Rattle.little_endian.specs.Spelling.{spelledSigneds}
-use Rattle.cell_bytes.specs.CellBytes.{CELL, cellsIn}
 use Rattle.block.specs.Tests.{testedSamples, testedSpectrum}
 use Rattle.block.specs.BlockAnswers.{blockAnswer}
-use Rattle.block.specs.declared.Answer.{Answer}
-use Rattle.block.specs.declared.Answer.the-variants.{Done, Refused}
-use Rattle.fourier.specs.Parts.{testedPower}
 use Rattle.packing.specs.Packing.{packed}
-use Rattle.block_bytes.specs.BytesLeft.{backwardBytes, forwardBytes, powerBytes}
+use Rattle.block_bytes.specs.BytesLeft.{backwardBytes, forwardBytes}
 
--- the cells of a small room and of a middle one
+-- the cells of a small room
 abbrev pub SMALL : ℕ
 SMALL = 16
-
-abbrev pub MIDDLE : ℕ
-MIDDLE = 128
 
 -- a call answers as the tests of its cells say, and leaves these bytes
 pub record Answered (tests : BlockVerdict) (left after : List ℕ) (answer : ℕ) : Type 0 where
@@ -31,11 +23,3 @@ ForwardAnswered before after answer = Answered (testedSamples (cellsIn before)) 
 
 abbrev pub BackwardAnswered : List ℕ → List ℕ → ℕ → Type 0
 BackwardAnswered before after answer = Answered (testedSpectrum [] (cellsIn before)) (backwardBytes before) after answer
-
-abbrev pub PowerAnswered : List ℕ → List ℕ → List ℕ → ℕ → Type 0
-PowerAnswered spectrum before after answer = Answered (testedPower (cellsIn spectrum) (cellsIn before)) (powerBytes spectrum before) after answer
-
--- the bytes that are left once the call on the cells has answered: those of its cells, or the lent bytes where it refuses
-abbrev pub leftBy : Answer → List ℤ → List ℕ → List ℕ
-leftBy Done cells lent = spelledSigneds CELL cells
-leftBy (Refused refusal) cells lent = lent

@@ -17,7 +17,7 @@ use Rattle.ints.proofs.Tables.{getD-tabulate, length-tabulate}
 use Rattle.little_endian.specs.Reading.{Within, signed, signeds}
 use Rattle.little_endian.specs.Spelling.{spelledSigneds}
 use Rattle.little_endian.proofs.Signed.{length-signeds, length-spelled-signeds, signeds-spelled, signeds-tabulated}
-use Rattle.cell_bytes.specs.CellBytes.{CELL, cellCount, cellsIn, cellsRead, decoded, encoded}
+use Rattle.cell_bytes.specs.CellBytes.{CELL, cellCount, cellsIn, cellsRead, decoded, encoded, fitCount}
 
 -- n cells are read: those that the bytes spell, or none where they are more than the most
 pub data Reads (most : ℕ) (bytes : List ℕ) (n : ℕ) : Type 0 where
@@ -31,6 +31,34 @@ whole-cells bytes e = rw (eq-eqb (length bytes % CELL) 0 e) refl
 pub no-cells : (bytes : List ℕ) → (length bytes % CELL ≡ 0 → ⊥) → cellsIn bytes ≡ []
 unfolding cellsIn
 no-cells bytes h = rw (ne-eqb (length bytes % CELL) 0 h) refl
+
+-- ---- an output, which is read as all the cells that it should have or as none
+
+module _ (wanted : ℕ) (some : 1 ≤ wanted) where
+  -- it fits as the cells that its bytes spell would
+  pub fit-count : (bytes : List ℕ) → eqb (fitCount wanted (length bytes)) wanted ≡ eqb (length (cellsIn bytes)) wanted
+  unfolding fitCount
+  fit-count bytes = go (eqb (length bytes) (CELL * wanted)) refl (eqb (length bytes % CELL) 0) refl
+    where
+      spelt : length bytes % CELL ≡ 0 → length (cellsIn bytes) ≡ length bytes / CELL
+      spelt z = ap length (whole-cells bytes z) ∙ length-signeds CELL (length bytes / CELL) bytes
+
+      go : (t : Bool) → eqb (length bytes) (CELL * wanted) ≡ t → (u : Bool) → eqb (length bytes % CELL) 0 ≡ u → eqb (cond t wanted 0) wanted ≡ eqb (length (cellsIn bytes)) wanted
+      go true et u eu = let h = eqb-true (length bytes) (CELL * wanted) et in
+          eq-eqb wanted wanted refl ∙ sym (eq-eqb (length (cellsIn bytes)) wanted (spelt (omega arith) ∙ omega arith))
+      go false et true eu = let h = eqb-false (length bytes) (CELL * wanted) et in let z = eqb-true (length bytes % CELL) 0 eu in
+          ne-eqb 0 wanted (λ e. omega arith) ∙ sym (ne-eqb (length (cellsIn bytes)) wanted (λ e. h (omega (arith, spelt z))))
+      go false et false eu = let z = no-cells bytes (eqb-false (length bytes % CELL) 0 eu) in
+          ne-eqb 0 wanted (λ e. omega arith) ∙ sym (ne-eqb (length (cellsIn bytes)) wanted (λ e. omega (arith, ap length z)))
+
+  -- and where it fits, its bytes are those of the cells
+  pub fit-room : (n : ℕ) → fitCount wanted n ≡ wanted → n ≡ CELL * wanted
+  unfolding fitCount
+  fit-room n = go (eqb n (CELL * wanted)) refl
+    where
+      go : (t : Bool) → eqb n (CELL * wanted) ≡ t → cond t wanted 0 ≡ wanted → n ≡ CELL * wanted
+      go true et e = eqb-true n (CELL * wanted) et
+      go false et e = absurd (omega arith)
 
 -- ---- cells are read where there are bytes enough, and written where there are as many as they take
 
@@ -71,13 +99,15 @@ module _ (most : ℕ) (bytes : List ℕ) (n : ℕ) (e : n ≡ cellCount (CELL * 
       go (same k room whole) = room
       go (too-many z k) = omega arith
 
-  -- they are read into the front of a room
-  module _ (room : List ℤ) (h : n ≤ length room) where
-    pub front-room : CELL * length (take n room) ≤ length bytes
-    front-room = rw (length-take-le n room h) count-room
+  -- there are bytes for a room of so many, and they are read into it
+  pub room-fits : (m : ℕ) → m ≡ n → CELL * m ≤ length bytes
+  room-fits m h = omega (arith, count-room)
 
-    pub front-read : (ys : List ℤ) → ys ≡ signeds CELL (length (take n room)) bytes → ys ≡ cellsRead (CELL * most) bytes
-    front-read ys is = is ∙ ap (λ (m : ℕ). signeds CELL m bytes) (length-take-le n room h ∙ e)
+  pub cells-read : (m : ℕ) → m ≡ n → signeds CELL m bytes ≡ cellsRead (CELL * most) bytes
+  cells-read m h = ap (λ (m : ℕ). signeds CELL m bytes) (h ∙ e)
+
+  pub cells-decoded : (room : List ℤ) → length room ≡ n → decoded bytes room ≡ cellsRead (CELL * most) bytes
+  cells-decoded room h = decoded-all bytes room (room-fits (length room) h) ∙ cells-read (length room) h
 
 -- ---- the bytes of a cell, from `start` to `end`
 
@@ -98,9 +128,8 @@ module _ (bytes : List ℕ) (cells : List ℤ) (k : ℕ) (e : k ≡ CELL * lengt
       long : length (take CELL (drop (CELL * i) (take k bytes))) ≡ CELL
       long = length-part 0 (CELL * i) CELL (take k bytes) (omega (arith, length-take-le k bytes h))
 
-  pub front-decoded : decoded (take k bytes) cells ≡ signeds CELL (length cells) bytes
-  front-decoded = decoded-all (take k bytes) cells (omega (arith, length-take-le k bytes h))
-      ∙ sym (signeds-tabulated CELL n (take k bytes))
+  front-signeds : signeds CELL (length cells) (take k bytes) ≡ signeds CELL (length cells) bytes
+  front-signeds = sym (signeds-tabulated CELL n (take k bytes))
       ∙ filled-all (pos 0) (spelled bytes) (tabulate n front) n (length-tabulate n front) (λ i l. getD-tabulate n front (pos 0) i l ∙ ap signed (front-word i l))
       ∙ signeds-tabulated CELL n bytes
     where
@@ -112,6 +141,12 @@ module _ (bytes : List ℕ) (cells : List ℤ) (k : ℕ) (e : k ≡ CELL * lengt
 
       front : ℕ → ℤ
       front = spelled (take k bytes)
+
+  pub front-read : decoded (take k bytes) cells ≡ signeds CELL (length cells) bytes
+  front-read = decoded-all (take k bytes) cells (omega (arith, length-take-le k bytes h)) ∙ front-signeds
+
+  pub front-decoded : signeds CELL (length cells) (take k bytes) ≡ decoded bytes cells
+  front-decoded = front-signeds ∙ sym (decoded-all bytes cells (omega arith))
 
 -- ---- bytes that were written spell the cells that they were written for
 

@@ -22,7 +22,11 @@ cellsIn bytes = cond (eqb (length bytes % CELL) 0) (signeds CELL (length bytes /
 unfoldable pub cellCount : ℕ → ℕ → ℕ
 cellCount most n = cond (eqb (n % CELL) 0 && leb n most) (n / CELL) 0
 
--- and those cells
+-- the same where just `wanted` cells are asked for: all of them or none
+unfoldable pub fitCount : ℕ → ℕ → ℕ
+fitCount wanted n = cond (eqb n (CELL * wanted)) wanted 0
+
+-- the cells that are read
 abbrev pub cellsRead : ℕ → List ℕ → List ℤ
 cellsRead most bytes = signeds CELL (cellCount most (length bytes)) bytes
 

@@ -2,9 +2,9 @@
 ghost use mathlib.Core.Path.{_≡_};
 ghost use Prim.Native.Nat.{_*_, _≤_};
 ghost use lib.ListN.{length};
-ghost use Rattle.little_endian.specs.Reading.{unsigned};
+ghost use Rattle.little_endian.specs.Reading.{signeds, unsigned};
 ghost use Rattle.little_endian.specs.Spelling.{spelled};
-ghost use Rattle.cell_bytes.specs.CellBytes.{CELL, cellCount, decoded, encoded};
+ghost use Rattle.cell_bytes.specs.CellBytes.{CELL, cellCount, decoded, encoded, fitCount};
 
 // The bytes of a cell.
 pub const CELL: usize = 8;
@@ -25,13 +25,34 @@ pub fn cell_count(most: usize, bytes: usize) -> usize
     bytes / CELL
 }
 
-// Reads as many cells as there is room for. Where there are too few bytes for them, nothing is read.
+// The number of cells that so many bytes are read as where just `wanted` are asked for: these, or 0, which no call takes.
+pub fn fit_count(wanted: usize, bytes: usize) -> usize
+    ensures { λ r. ⌜ (r ≡ fitCount wanted bytes) × (r ≤ wanted) ⌝ }
+{
+    if bytes / CELL != wanted {
+        return 0;
+    }
+    if bytes != CELL * wanted {
+        return 0;
+    }
+    wanted
+}
+
+// Reads as many cells as there is room for, from the front of the bytes. Where there are too few bytes for them, nothing is read.
 pub fn decode(bytes: &[u8], cells: &mut [i64])
     ensures { λ _. ⌜ now (cells .exit) ≡ decoded (now (bytes .entry)) (now (cells .entry)) ⌝ }
 {
     if bytes.len() < CELL * cells.len() {
         return;
     }
+    decode_all(&bytes[..CELL * cells.len()], cells);
+}
+
+// Reads a cell from each eight bytes.
+fn decode_all(bytes: &[u8], cells: &mut [i64])
+    requires { ⌜ length (now bytes) ≡ CELL * length (now cells) ⌝ }
+    ensures { λ _. ⌜ now (cells .exit) ≡ signeds CELL (length (now (cells .entry))) (now (bytes .entry)) ⌝ }
+{
     let mut i = 0;
     while i < cells.len() {
         let at = CELL * i;

@@ -12,7 +12,7 @@ use Rattle.hartley.proofs.BackwardLeft.{negative-block}
 use Rattle.cell_bytes.specs.CellBytes.{cellsIn}
 use Rattle.block_bytes.specs.BytesLeft.{backwardBytes}
 use Rattle.block_bytes.specs.Inner.{BackwardAnswered}
-use Rattle.block_bytes.proofs.Counts.{left-spelled}
+use Rattle.lent_cells.proofs.Counts.{left-spelled}
 
 spelled-cells : (bytes : List ℕ) → cellsIn (backwardBytes bytes) ≡ backwardLeft (cellsIn bytes)
 spelled-cells bytes = let xs = cellsIn bytes in left-spelled (λ P. backward P xs) bytes (testedSpectrum [] xs)

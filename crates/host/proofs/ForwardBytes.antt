@@ -16,7 +16,7 @@ use Rattle.cell_bytes.specs.CellBytes.{cellsIn}
 use Rattle.block_bytes.specs.BytesLeft.{forwardBytes}
 use Rattle.block_bytes.specs.Inner.{ForwardAnswered}
 use Rattle.packing.proofs.Packing.{nothing-refused}
-use Rattle.block_bytes.proofs.Counts.{left-spelled}
+use Rattle.lent_cells.proofs.Counts.{left-spelled}
 
 spelled-cells : (bytes : List ℕ) → cellsIn (forwardBytes bytes) ≡ forwardLeft (cellsIn bytes)
 spelled-cells bytes = let xs = cellsIn bytes in left-spelled (λ P. forward P xs) bytes (testedSamples xs)

@@ -1,16 +1,21 @@
-// Entries for hosts in C: the engine and the trace check on byte slices, each with one plain number for an answer (document 01, Parts of the engine).
-use trace::TraceAnswer;
+// Entries for hosts in C: the engine and the trace reader on byte slices, each with one plain number for an answer (document 01, Parts of the engine).
+use kind::Line;
 ghost use mathlib.Core.Path.{_≡_};
 ghost use mathlib.Core.List.{[]};
+ghost use lib.ListN.{length};
 ghost use Rattle.cell_bytes.specs.CellBytes.{cellsIn};
-ghost use Rattle.block.specs.Tests.{testedSamples, testedSpectrum};
+ghost use Rattle.block.specs.Tests.{testedLine, testedSamples, testedSpectrum};
 ghost use Rattle.block.specs.BlockAnswers.{blockAnswer, verdictNumbers};
 ghost use Rattle.hartley.specs.Promises.{FirstLineExact, NearDirectSum, NegativeBlock, NegativeSpectrum};
-ghost use Rattle.fourier.specs.Parts.{testedPower};
-ghost use Rattle.block_bytes.specs.BytesLeft.{backwardBytes, forwardBytes, powerBytes};
+ghost use Rattle.fourier.specs.Parts.{testedParts, testedPower};
+ghost use Rattle.fourier.specs.Scaled.{Values};
+ghost use Rattle.block_bytes.specs.BytesLeft.{backwardBytes, forwardBytes};
+ghost use Rattle.line_bytes.specs.LinesLeft.{imaginaryBytes, powerBytes, realBytes};
+ghost use Rattle.scaled_bytes.specs.LineHeld.{imaginaryHeld, asLine, realHeld, scaledOf};
+ghost use Rattle.fetch_bytes.specs.Fetched.{fetchBytes, fetchedOf};
 ghost use Rattle.trace.specs.Contents.{contents};
 ghost use Rattle.trace.specs.TraceAnswers.{contentsNumbers, traceAnswer};
-ghost use Rattle.packing.specs.Packing.{blocksIn, numberIn, pIn, packed, packedTrace, placeIn, rateIn, unpackedBlock, unpackedTrace};
+ghost use Rattle.packing.specs.Packing.{blocksIn, caseIn, caseNumbers, numberIn, pIn, packed, packedScaled, packedTrace, placeIn, rateIn, unpackedBlock, unpackedFetch, unpackedScaled, unpackedTrace};
 
 // The forward spectrum of the block that the bytes spell, in its place.
 #[no_mangle]
@@ -36,6 +41,17 @@ pub extern "C" fn hartley_backward(cells: &mut [u8]) -> u64
     block_bytes::backward(cells)
 }
 
+// The doubled real and imaginary parts of the spectrum that the bytes spell, for lines 0 to N/2, in two lists of lent bytes.
+#[no_mangle]
+pub extern "C" fn hartley_parts(spectrum: &[u8], real: &mut [u8], imaginary: &mut [u8]) -> u64
+    ensures answer { λ r. ⌜ r ≡ packed (blockAnswer (testedParts (cellsIn (now (spectrum .entry))) (cellsIn (now (real .entry))) (cellsIn (now (imaginary .entry))))) ⌝ }
+    ensures numbers { λ r. ⌜ unpackedBlock r ≡ verdictNumbers (testedParts (cellsIn (now (spectrum .entry))) (cellsIn (now (real .entry))) (cellsIn (now (imaginary .entry)))) ⌝ }
+    ensures real { λ _. ⌜ now (real .exit) ≡ realBytes (now (spectrum .entry)) (now (real .entry)) (now (imaginary .entry)) ⌝ }
+    ensures imaginary { λ _. ⌜ now (imaginary .exit) ≡ imaginaryBytes (now (spectrum .entry)) (now (real .entry)) (now (imaginary .entry)) ⌝ }
+{
+    line_bytes::parts(spectrum, real, imaginary)
+}
+
 // The doubled power of the spectrum that the bytes spell, for lines 0 to N/2, in lent bytes.
 #[no_mangle]
 pub extern "C" fn hartley_power(spectrum: &[u8], powers: &mut [u8]) -> u64
@@ -43,7 +59,24 @@ pub extern "C" fn hartley_power(spectrum: &[u8], powers: &mut [u8]) -> u64
     ensures numbers { λ r. ⌜ unpackedBlock r ≡ verdictNumbers (testedPower (cellsIn (now (spectrum .entry))) (cellsIn (now (powers .entry)))) ⌝ }
     ensures bytes { λ _. ⌜ now (powers .exit) ≡ powerBytes (now (spectrum .entry)) (now (powers .entry)) ⌝ }
 {
-    block_bytes::power(spectrum, powers)
+    line_bytes::power(spectrum, powers)
+}
+
+// A scaled line of the spectrum that the bytes spell: which case it is, and its numbers where they are lent.
+#[no_mangle]
+pub extern "C" fn hartley_scaled(
+    spectrum: &[u8],
+    line: usize,
+    real: &mut f64,
+    imaginary: &mut f64,
+) -> u64
+    ensures answer { λ r. ⌜ r ≡ packedScaled (scaledOf (now (spectrum .entry)) (asLine line)) ⌝ }
+    ensures numbers { λ r. ⌜ unpackedScaled line r ≡ caseNumbers (length (cellsIn (now (spectrum .entry)))) line (testedLine (asLine line) (cellsIn (now (spectrum .entry)))) ⌝ }
+    ensures real { λ _. ⌜ now (real .exit) ≡ realHeld (scaledOf (now (spectrum .entry)) (asLine line)) (now (real .entry)) ⌝ }
+    ensures imaginary { λ _. ⌜ now (imaginary .exit) ≡ imaginaryHeld (scaledOf (now (spectrum .entry)) (asLine line)) (now (imaginary .entry)) ⌝ }
+    ensures values { λ _. ⌜ Values (cellsIn (now (spectrum .entry))) (asLine line) (scaledOf (now (spectrum .entry)) (asLine line)) ⌝ }
+{
+    scaled_bytes::scaled(spectrum, Line(line), real, imaginary)
 }
 
 // The check of a trace.
@@ -52,10 +85,17 @@ pub extern "C" fn hartley_check(trace: &[u8]) -> u64
     ensures answer { λ r. ⌜ r ≡ packedTrace (traceAnswer (contents (now (trace .entry)))) ⌝ }
     ensures numbers { λ r. ⌜ unpackedTrace r ≡ contentsNumbers (contents (now (trace .entry))) ⌝ }
 {
-    match trace::check(trace) {
-        TraceAnswer::Refused(refusal) => packing::packed_refusal(refusal),
-        TraceAnswer::Accepted { head, blocks } => packing::packed_trace(head, blocks),
-    }
+    packing::packed_trace(trace::check(trace))
+}
+
+// What the check answers, and the samples of block k of the trace in the lent bytes.
+#[no_mangle]
+pub extern "C" fn hartley_fetch(trace: &[u8], k: usize, cells: &mut [u8]) -> u64
+    ensures answer { λ r. ⌜ r ≡ packedTrace (traceAnswer (fetchedOf (now (trace .entry)) k (now (cells .entry)))) ⌝ }
+    ensures numbers { λ r. ⌜ unpackedFetch k r ≡ contentsNumbers (fetchedOf (now (trace .entry)) k (now (cells .entry))) ⌝ }
+    ensures bytes { λ _. ⌜ now (cells .exit) ≡ fetchBytes (now (trace .entry)) k (now (cells .entry)) ⌝ }
+{
+    fetch_bytes::fetch(trace, k, cells)
 }
 
 // The refusal's number in an answer, or 0 where nothing is refused.
@@ -72,6 +112,14 @@ pub extern "C" fn hartley_place(answer: u64) -> u64
     ensures { λ r. ⌜ r ≡ placeIn answer ⌝ }
 {
     answer / 256
+}
+
+// Which case a scaled line is, in the answer of a call for one.
+#[no_mangle]
+pub extern "C" fn hartley_case(answer: u64) -> u64
+    ensures { λ r. ⌜ r ≡ caseIn answer ⌝ }
+{
+    answer / 256 % 256
 }
 
 // The rate in the answer to an accepted trace.

@@ -1,11 +1,15 @@
 -- Unpacking an answer gives back what was packed, since each part stays within its bytes.
 -- Example: `block-unpacked k : unpackedBlock (packed (blockAnswer k)) ≡ verdictNumbers k`.
-use mathlib.Core.Path.{_≡_, refl, _∙_}
-use mathlib.Core.Bool.{false}
+use mathlib.Core.Path.{_≡_, refl, sym, _∙_, ap}
+use mathlib.Core.Bool.{Bool, true, false, cond}
+use mathlib.Core.List.{List, [], _∷_}
 use Prim.Native.Nat.{ℕ, _+_, _*_, _/_, _%_, _^_, _≤_, _<_}
 use native.Mathlib.Omega.{arith}
 use borrow.Author.Tests.{eq-eqb, ne-eqb}
 use lib.Dec.{eqb}
+use lib.IntN.{ℤ}
+use lib.ListN.{length}
+use Rattle.kind.specs.declared.Line.{Line as LineOf}
 use Rattle.little_endian.specs.Reading.{unsigned}
 use Rattle.little_endian.specs.Spelling.{spelled}
 use Rattle.block.specs.declared.BlockVerdict.{BlockVerdict}
@@ -16,11 +20,17 @@ use Rattle.refusal.specs.RefusalTable.{number, place}
 use Rattle.block.specs.BlockAnswers.{blockAnswer, verdictNumbers}
 use Rattle.block.specs.declared.Answer.{Answer}
 use Rattle.block.specs.declared.Answer.the-variants.{Done, Refused}
+use Rattle.fourier.specs.declared.ScaledLine.the-variants.{Mean, Last, Pair}
+use Rattle.fourier.specs.Parts.{H}
+use Rattle.fourier.specs.Scaled.{quotient, scaledLine, scaledParts, scaledTo}
+use Rattle.block.proofs.Refused.{InBlock}
 use Rattle.record.specs.declared.Head.{Head as TraceHead}
+use Rattle.record.proofs.Places.{InTrace}
 use Rattle.trace.specs.declared.TraceAnswer.{TraceAnswer}
 use Rattle.trace.specs.declared.TraceAnswer.the-variants.{Accepted, Refused as TraceRefused}
+use Rattle.trace.specs.Contents.{LONGEST}
 use Rattle.trace.specs.TraceAnswers.{traceAnswerNumbers}
-use Rattle.packing.specs.Packing.{numberIn, packed, packedRefusal, packedTrace, placeIn, rateIn, unpackedBlock, unpackedTrace}
+use Rattle.packing.specs.Packing.{blocksIn, caseNumbers, caseOf, numberIn, packed, packedRefusal, packedScaled, packedTrace, pIn, placeFor, placeIn, rateIn, unlessRefused, unpackedBlock, unpackedFetch, unpackedScaled, unpackedTrace}
 
 -- ---- a refusal
 
@@ -42,13 +52,72 @@ module _ (refusal : Refusal) where
   unfolding packedRefusal
   number-back = omega (arith, number-fits refusal .1)
 
-  place-back : placeIn (packedRefusal refusal) ≡ place refusal
+  place-back : place refusal < 256 ^ 7 → placeIn (packedRefusal refusal) ≡ place refusal
   unfolding packedRefusal
-  place-back = omega (arith, number-fits refusal .1)
+  place-back small = omega (arith, number-fits refusal .1)
 
   -- it is not taken for an answer that refuses nothing
-  refused-at-all : eqb (numberIn (packedRefusal refusal)) 0 ≡ false
+  pub refused-at-all : eqb (numberIn (packedRefusal refusal)) 0 ≡ false
   refused-at-all = rw number-back (ne-eqb (number refusal) 0 (λ e. omega (arith, number-fits refusal .0)))
+
+  told : (shown : ℕ) (done : List ℕ) → shown ≡ place refusal → unlessRefused (packedRefusal refusal) shown done ≡ number refusal ∷ place refusal ∷ []
+  told shown done e = rw (refused-at-all, number-back, e) refl
+
+-- the place is what the host has asked for where the refusal is 4 or 16, and else fits its bytes
+abbrev pub Tellable : ℕ → Refusal → Type 0
+Tellable asked Length = Unit {0}
+Tellable asked Misfit = Unit {0}
+Tellable asked (Loud cell) = cell < 256 ^ 7
+Tellable asked (Line line) = line .0 ≡ asked
+Tellable asked Long = Unit {0}
+Tellable asked (Cut byte) = byte < 256 ^ 7
+Tellable asked (Kind byte) = byte < 256 ^ 7
+Tellable asked (Order byte) = byte < 256 ^ 7
+Tellable asked (Size byte) = byte < 256 ^ 7
+Tellable asked (Head byte) = byte < 256 ^ 7
+Tellable asked (Absent block) = block ≡ asked
+
+module _ (asked : ℕ) where
+  place-for : (refusal : Refusal) → Tellable asked refusal → placeFor asked (packedRefusal refusal) ≡ place refusal
+  place-for Length h = rw (number-back Length) (place-back Length (omega arith))
+  place-for Misfit h = rw (number-back Misfit) (place-back Misfit (omega arith))
+  place-for (Loud cell) h = rw (number-back (Loud cell)) (place-back (Loud cell) h)
+  place-for (Line line) h = rw (number-back (Line line)) (sym h)
+  place-for Long h = rw (number-back Long) (place-back Long (omega arith))
+  place-for (Cut byte) h = rw (number-back (Cut byte)) (place-back (Cut byte) h)
+  place-for (Kind byte) h = rw (number-back (Kind byte)) (place-back (Kind byte) h)
+  place-for (Order byte) h = rw (number-back (Order byte)) (place-back (Order byte) h)
+  place-for (Size byte) h = rw (number-back (Size byte)) (place-back (Size byte) h)
+  place-for (Head byte) h = rw (number-back (Head byte)) (place-back (Head byte) h)
+  place-for (Absent block) h = rw (number-back (Absent block)) (sym h)
+
+  -- a refusal of a trace has its place in it
+  pub in-trace-tellable : (refusal : Refusal) → InTrace LONGEST refusal → Tellable asked refusal
+  in-trace-tellable Length h = tt
+  in-trace-tellable Misfit h = tt
+  in-trace-tellable (Loud cell) h = absurd h
+  in-trace-tellable (Line line) h = absurd h
+  in-trace-tellable Long h = tt
+  in-trace-tellable (Cut byte) h = omega arith
+  in-trace-tellable (Kind byte) h = omega arith
+  in-trace-tellable (Order byte) h = omega arith
+  in-trace-tellable (Size byte) h = omega arith
+  in-trace-tellable (Head byte) h = omega arith
+  in-trace-tellable (Absent block) h = absurd h
+
+  -- and a refusal of a block
+  pub in-block-tellable : (refusal : Refusal) → InBlock refusal → Tellable asked refusal
+  in-block-tellable Length h = tt
+  in-block-tellable Misfit h = tt
+  in-block-tellable (Loud cell) h = omega arith
+  in-block-tellable (Line line) h = absurd h
+  in-block-tellable Long h = tt
+  in-block-tellable (Cut byte) h = absurd h
+  in-block-tellable (Kind byte) h = absurd h
+  in-block-tellable (Order byte) h = absurd h
+  in-block-tellable (Size byte) h = absurd h
+  in-block-tellable (Head byte) h = absurd h
+  in-block-tellable (Absent block) h = absurd h
 
 -- ---- a call on a block
 
@@ -57,10 +126,42 @@ unfolding packedRefusal
 nothing-refused Done e = refl
 nothing-refused (Refused refusal) e = absurd (omega (arith, number-fits refusal .0))
 
-pub block-unpacked : (k : BlockVerdict) → unpackedBlock (packed (blockAnswer k)) ≡ verdictNumbers k
+pub block-unpacked : (k : BlockVerdict) → ((refusal : Refusal) → k ≡ BlockRefused refusal → place refusal < 256 ^ 7) → unpackedBlock (packed (blockAnswer k)) ≡ verdictNumbers k
 unfolding unpackedBlock
-block-unpacked (Taken kind) = refl
-block-unpacked (BlockRefused refusal) = rw (refused-at-all refusal, number-back refusal, place-back refusal) refl
+block-unpacked (Taken kind) h = refl
+block-unpacked (BlockRefused refusal) h = told refusal _ [] (place-back refusal (h refusal refl))
+
+-- ---- a scaled line
+
+case-packed : (xs : List ℤ) (v : ℕ) → packedScaled (scaledLine xs v) ≡ 256 * caseOf (length xs) v
+case-packed xs v = go (eqb v 0) (eqb v (length xs / 2))
+  where
+    go : (t u : Bool) → packedScaled (cond t (Mean (quotient (H xs 0) (length xs))) (cond u (Last (quotient (H xs (length xs / 2)) (length xs))) (Pair (scaledParts xs v)))) ≡ 256 * cond t 1 (cond u 2 3)
+    go true u = refl
+    go false true = refl
+    go false false = refl
+
+case-small : (N v : ℕ) → caseOf N v < 256
+case-small N v = go (eqb v 0) (eqb v (N / 2))
+  where
+    go : (t u : Bool) → cond t 1 (cond u 2 3) < 256
+    go true u = omega arith
+    go false true = omega arith
+    go false false = omega arith
+
+case-unpacked : (line c : ℕ) → c < 256 → unpackedScaled line (256 * c) ≡ c ∷ []
+unfolding unpackedScaled
+case-unpacked line c h = let none : numberIn (256 * c) ≡ 0 = omega arith in let one : 256 * c / 256 ≡ c = omega arith in let same : c % 256 ≡ c = omega arith in
+    rw (eq-eqb (numberIn (256 * c)) 0 none, one, same) refl
+
+line-refused : (asked : ℕ) (refusal : Refusal) → Tellable asked refusal → unpackedScaled asked (packedRefusal refusal) ≡ number refusal ∷ place refusal ∷ []
+unfolding unpackedScaled
+line-refused asked refusal h = told refusal _ _ (place-for asked refusal h)
+
+pub scaled-unpacked : (xs : List ℤ) (line : LineOf) (k : BlockVerdict) → ((refusal : Refusal) → k ≡ BlockRefused refusal → Tellable (line .0) refusal)
+    → unpackedScaled (line .0) (packedScaled (scaledTo xs line k)) ≡ caseNumbers (length xs) (line .0) k
+scaled-unpacked xs line (Taken kind) h = ap (unpackedScaled (line .0)) (case-packed xs (line .0)) ∙ case-unpacked (line .0) (caseOf (length xs) (line .0)) (case-small (length xs) (line .0))
+scaled-unpacked xs line (BlockRefused refusal) h = line-refused (line .0) refusal (h refusal refl)
 
 -- ---- a check
 
@@ -90,9 +191,9 @@ module _ (head : TraceHead) (blocks : ℕ) (f : Fitting head blocks) where
   fitting-packed : packedTrace (Accepted head blocks) ≡ 256 * (head .p + 256 * (blocks + 256 ^ 2 * head .rate))
   fitting-packed = accepted-packed head blocks ∙ omega arith
 
-  accepted-unpacked : unpackedTrace (packedTrace (Accepted head blocks)) ≡ traceAnswerNumbers (Accepted head blocks)
-  unfolding unpackedTrace
-  accepted-unpacked = let a = 256 * (head .p + 256 * (blocks + 256 ^ 2 * head .rate)) in
+  -- whatever a place would be
+  accepted-told : (shown : ℕ) → let a = packedTrace (Accepted head blocks) in unlessRefused a shown (rateIn a ∷ pIn a ∷ blocksIn a ∷ []) ≡ traceAnswerNumbers (Accepted head blocks)
+  accepted-told shown = let a = 256 * (head .p + 256 * (blocks + 256 ^ 2 * head .rate)) in
       let none : numberIn a ≡ 0 = omega arith in
       let rate : rateIn a ≡ head .rate = omega arith in
       let after-1 : a / 256 ≡ head .p + 256 * (blocks + 256 ^ 2 * head .rate) = omega arith in
@@ -101,7 +202,14 @@ module _ (head : TraceHead) (blocks : ℕ) (f : Fitting head blocks) where
       let count : (blocks + 256 ^ 2 * head .rate) % 256 ^ 2 ≡ blocks = omega arith in
       rw (fitting-packed, eq-eqb (numberIn a) 0 none, rate, after-1, exponent, after-2, count) refl
 
-pub trace-unpacked : (answer : TraceAnswer) → ((head : TraceHead) (blocks : ℕ) → Accepted head blocks ≡ answer → Fitting head blocks) → unpackedTrace (packedTrace answer) ≡ traceAnswerNumbers answer
+pub trace-unpacked : (answer : TraceAnswer) → ((refusal : Refusal) → answer ≡ TraceRefused refusal → place refusal < 256 ^ 7) → ((head : TraceHead) (blocks : ℕ) → answer ≡ Accepted head blocks → Fitting head blocks)
+    → unpackedTrace (packedTrace answer) ≡ traceAnswerNumbers answer
 unfolding unpackedTrace
-trace-unpacked (Accepted head blocks) h = accepted-unpacked head blocks (h head blocks refl)
-trace-unpacked (TraceRefused refusal) h = rw (refused-at-all refusal, number-back refusal, place-back refusal) refl
+trace-unpacked (Accepted head blocks) small fits = accepted-told head blocks (fits head blocks refl) _
+trace-unpacked (TraceRefused refusal) small fits = told refusal _ _ (place-back refusal (small refusal refl))
+
+pub fetch-unpacked : (k : ℕ) (answer : TraceAnswer) → ((refusal : Refusal) → answer ≡ TraceRefused refusal → Tellable k refusal) → ((head : TraceHead) (blocks : ℕ) → answer ≡ Accepted head blocks → Fitting head blocks)
+    → unpackedFetch k (packedTrace answer) ≡ traceAnswerNumbers answer
+unfolding unpackedFetch
+fetch-unpacked k (Accepted head blocks) small fits = accepted-told head blocks (fits head blocks refl) _
+fetch-unpacked k (TraceRefused refusal) small fits = told refusal _ _ (place-for k refusal (small refusal refl))

@@ -1,23 +1,27 @@
--- What the plain number means that answers a host in C. In eight bytes, least byte first: a refusal is its number in one byte and its place in seven; an
--- accepted trace is 0 in one byte, P in one, the number of blocks in two and the rate in four; and a call on a block that is done is 0.
-use mathlib.Core.Bool.{cond}
+-- What the plain number means that answers a host in C. In eight bytes, least byte first: a refusal is its number in one byte and the lower seven bytes of
+-- its place; an accepted trace is 0 in one byte, P in one, the number of blocks in two and the rate in four; a scaled line is 0 in one byte and its case in
+-- the next; and a call on a block that is done is 0.
+use mathlib.Core.Bool.{cond, _||_}
 use mathlib.Core.List.{List, [], _∷_, _++_}
-use Prim.Native.Nat.{ℕ, _+_, _*_, _/_, _%_, _^_, _≤_}
+use Prim.Native.Nat.{ℕ, _+_, _*_, _/_, _%_, _^_}
 use lib.Dec.{eqb}
 use Rattle.refusal.specs.declared.Refusal.{Refusal}
 use Rattle.refusal.specs.RefusalTable.{number, place}
 use Rattle.little_endian.specs.Reading.{unsigned}
 use Rattle.little_endian.specs.Spelling.{spelled}
+use Rattle.block.specs.declared.BlockVerdict.{BlockVerdict}
+use Rattle.block.specs.declared.BlockVerdict.the-variants.{Taken, Refused as BlockRefused}
 use Rattle.block.specs.declared.Answer.{Answer}
 use Rattle.block.specs.declared.Answer.the-variants.{Done, Refused}
-use Rattle.trace.specs.Contents.{LONGEST}
 use Rattle.trace.specs.declared.TraceAnswer.{TraceAnswer}
 use Rattle.trace.specs.declared.TraceAnswer.the-variants.{Accepted, Refused as TraceRefused}
+use Rattle.fourier.specs.declared.ScaledLine.{ScaledLine}
+use Rattle.fourier.specs.declared.ScaledLine.the-variants.{Mean, Last, Pair, Refused as LineRefused}
 
 -- ---- packed
 
 unfoldable pub packedRefusal : Refusal → ℕ
-packedRefusal refusal = number refusal + 256 * place refusal
+packedRefusal refusal = number refusal + 256 * (place refusal % 256 ^ 7)
 
 abbrev pub packed : Answer → ℕ
 packed Done = 0
@@ -26,6 +30,16 @@ packed (Refused refusal) = packedRefusal refusal
 abbrev pub packedTrace : TraceAnswer → ℕ
 packedTrace (Accepted head blocks) = unsigned (spelled 1 0 ++ spelled 1 (head .p) ++ spelled 2 blocks ++ spelled 4 (head .rate))
 packedTrace (TraceRefused refusal) = packedRefusal refusal
+
+-- the cases of a scaled line: 1 is a mean, 2 a last line, 3 a pair; and which of them line v of N is
+abbrev pub caseOf : ℕ → ℕ → ℕ
+caseOf N v = cond (eqb v 0) 1 (cond (eqb v (N / 2)) 2 3)
+
+abbrev pub packedScaled : ScaledLine → ℕ
+packedScaled (Mean mean) = 256 * 1
+packedScaled (Last last) = 256 * 2
+packedScaled (Pair pair) = 256 * 3
+packedScaled (LineRefused refusal) = packedRefusal refusal
 
 -- ---- and unpacked
 
@@ -44,16 +58,32 @@ blocksIn answer = answer / 256 ^ 2 % 256 ^ 2
 abbrev pub rateIn : ℕ → ℕ
 rateIn answer = answer / 256 ^ 4
 
--- document 01's numbers in the answer of a call on a block (nothing where it is done), and of a check
+abbrev pub caseIn : ℕ → ℕ
+caseIn answer = answer / 256 % 256
+
+-- The place of 4 and 16 is the line or the block that was asked for, which the host has itself.
+abbrev pub placeFor : ℕ → ℕ → ℕ
+placeFor asked answer = cond (eqb (numberIn answer) 4 || eqb (numberIn answer) 16) asked (placeIn answer)
+
+-- the refusal's number and place where a call refuses, else what it answers
+abbrev pub unlessRefused : ℕ → ℕ → List ℕ → List ℕ
+unlessRefused answer place done = cond (eqb (numberIn answer) 0) done (numberIn answer ∷ place ∷ [])
+
+-- document 01's numbers in the answer of a call on a block (nothing where it is done), of a check, and of a fetch of block k
 unfoldable pub unpackedBlock : ℕ → List ℕ
-unpackedBlock answer = cond (eqb (numberIn answer) 0) [] (numberIn answer ∷ placeIn answer ∷ [])
+unpackedBlock answer = unlessRefused answer (placeIn answer) []
 
 unfoldable pub unpackedTrace : ℕ → List ℕ
-unpackedTrace answer = cond (eqb (numberIn answer) 0) (rateIn answer ∷ pIn answer ∷ blocksIn answer ∷ []) (numberIn answer ∷ placeIn answer ∷ [])
+unpackedTrace answer = unlessRefused answer (placeIn answer) (rateIn answer ∷ pIn answer ∷ blocksIn answer ∷ [])
 
--- ---- what can be packed
+unfoldable pub unpackedFetch : ℕ → ℕ → List ℕ
+unpackedFetch k answer = unlessRefused answer (placeFor k answer) (rateIn answer ∷ pIn answer ∷ blocksIn answer ∷ [])
 
--- a refusal's place is one of a trace or of a block
-abbrev pub Packable : Answer → Type 0
-Packable Done = Unit {0}
-Packable (Refused refusal) = place refusal ≤ LONGEST
+-- of a call for a scaled line: its case
+unfoldable pub unpackedScaled : ℕ → ℕ → List ℕ
+unpackedScaled line answer = unlessRefused answer (placeFor line answer) (caseIn answer ∷ [])
+
+-- and what it should be, by what the tests of the spectrum and of line v find
+abbrev pub caseNumbers : ℕ → ℕ → BlockVerdict → List ℕ
+caseNumbers N v (Taken kind) = caseOf N v ∷ []
+caseNumbers N v (BlockRefused refusal) = number refusal ∷ place refusal ∷ []

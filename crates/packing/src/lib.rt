@@ -1,17 +1,23 @@
 // Answers as plain numbers, for hosts in C (document 01, Parts of the engine).
 use block::Answer;
+use fourier::ScaledLine;
 use record::Head;
 use refusal::Refusal;
+use trace::TraceAnswer;
 ghost use mathlib.Core.Path.{_≡_};
-ghost use Prim.Native.Nat.{_≤_};
-ghost use Rattle.refusal.specs.RefusalTable.{place};
-ghost use Rattle.trace.specs.Contents.{LONGEST};
 ghost use Rattle.trace.specs.declared.TraceAnswer.the-variants.{Accepted};
-ghost use Rattle.packing.specs.Packing.{Packable, packed, packedRefusal, packedTrace};
+ghost use Rattle.packing.specs.Packing.{packed, packedRefusal, packedScaled, packedTrace};
 
-// The answer of a call on a block as a plain number. Of a place beyond its seven bytes the upper byte is left off.
+// The cases of a scaled line.
+const MEAN: u64 = 1;
+
+const LAST: u64 = 2;
+
+const PAIR: u64 = 3;
+
+// The answer of a call on a block.
 pub fn packed(answer: Answer) -> u64
-    ensures { λ r. ⌜ (Packable answer → r ≡ packed answer) ⌝ }
+    ensures { λ r. ⌜ r ≡ packed answer ⌝ }
 {
     match answer {
         Answer::Done => 0,
@@ -19,17 +25,39 @@ pub fn packed(answer: Answer) -> u64
     }
 }
 
-// A refusal as a plain number. Of a place beyond its seven bytes the upper byte is left off.
-pub fn packed_refusal(refusal: Refusal) -> u64
-    ensures { λ r. ⌜ (place refusal ≤ LONGEST → r ≡ packedRefusal refusal) ⌝ }
+// The answer of a call on a trace.
+pub fn packed_trace(answer: TraceAnswer) -> u64
+    ensures { λ r. ⌜ r ≡ packedTrace answer ⌝ }
+{
+    match answer {
+        TraceAnswer::Refused(refusal) => packed_refusal(refusal),
+        TraceAnswer::Accepted { head, blocks } => packed_contents(head, blocks),
+    }
+}
+
+// Which case a scaled line is, or the refusal.
+pub fn packed_scaled(answer: ScaledLine) -> u64
+    ensures { λ r. ⌜ r ≡ packedScaled answer ⌝ }
+{
+    match answer {
+        ScaledLine::Mean(_) => 256 * MEAN,
+        ScaledLine::Last(_) => 256 * LAST,
+        ScaledLine::Pair(_) => 256 * PAIR,
+        ScaledLine::Refused(refusal) => packed_refusal(refusal),
+    }
+}
+
+// A refusal: its number in one byte, and of its place the lower seven.
+fn packed_refusal(refusal: Refusal) -> u64
+    ensures { λ r. ⌜ r ≡ packedRefusal refusal ⌝ }
 {
     let number = refusal.number() as u64;
     let place = refusal.place() as u64 % 72057594037927936;
     number + 256 * place
 }
 
-// What an accepted trace holds as a plain number. Of each number that does not fit its bytes the upper ones are left off.
-pub fn packed_trace(head: Head, blocks: usize) -> u64
+// What an accepted trace holds. Of each number that does not fit its bytes the upper ones are left off.
+fn packed_contents(head: Head, blocks: usize) -> u64
     ensures { λ r. ⌜ r ≡ packedTrace (Accepted head blocks) ⌝ }
 {
     let p = head.p as u64 % 256;

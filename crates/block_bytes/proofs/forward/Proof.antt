@@ -1,6 +1,11 @@
 -- `forward` is right because each of its ways is, and each is taken where its room is large enough.
 use borrow.Author.Needs.{needs}
+use mathlib.Core.Path.{sym, _∙_}
 use native.Mathlib.Omega.{arith}
+use lib.Seq.{length-take-le}
+use denote.Ref.{now}
+use Rattle.kind.specs.BlockKinds.{LARGEST}
+use Rattle.cell_bytes.proofs.CellsRead.{cells-read, room-fits}
 use Rattle.block_bytes.proofs.forward.Statement.{statement}
 use Rattle.block_bytes.proofs.forward.Tie as tie
 
@@ -14,28 +19,48 @@ forward-short-requires : tie.Need-forward-short-requires
 forward-short-requires c κs = (omega (arith, c .before .before .cell-count .ensures .0), omega arith)
 
 same-length : tie.Need-same-length
-same-length c = c .before .before .forward-short .kept .0
+same-length c = search needs
 
 returns : tie.Need-returns
-returns c = c .before .before .forward-short .ensures
+returns c = search needs
 
-forward-middle-requires : tie.Need-forward-middle-requires
-forward-middle-requires c κs = (omega (arith, c .before .before .before .cell-count .ensures .0), omega arith)
+array-borrow-prefix-room : tie.Need-array-borrow-prefix-room
+array-borrow-prefix-room c = omega arith
+
+slice-aggregate-cells : tie.Need-slice-aggregate-cells
+slice-aggregate-cells c = sym (length-take-le _ _ (omega arith))
+
+read-cells-requires : tie.Need-read-cells-requires
+read-cells-requires c κs = let n = c .before .before .before .before .before in room-fits LARGEST (now (n .before .before .args .bytes)) _ (n .cell-count .ensures .0) _ (length-take-le _ _ (omega arith))
+
+forward-in-requires : tie.Need-forward-in-requires
+forward-in-requires c κs = let d = c .before .before in let n = d .before .before .before .before .before .before in
+    d .read-cells .ensures ∙ cells-read LARGEST (now (n .before .before .args .bytes)) _ (n .cell-count .ensures .0) _ (length-take-le _ _ (omega arith))
 
 same-length-2 : tie.Need-same-length-2
-same-length-2 c = c .before .before .forward-middle .kept .0
+same-length-2 c = search needs
 
 returns-2 : tie.Need-returns-2
-returns-2 c = c .before .before .forward-middle .ensures
+returns-2 c = search needs
 
-forward-large-requires : tie.Need-forward-large-requires
-forward-large-requires c κs = let n = c .before .before .before .cell-count .ensures in (omega (arith, n .0), omega (arith, n .1))
+array-borrow-prefix-room-2 : tie.Need-array-borrow-prefix-room-2
+array-borrow-prefix-room-2 c = omega arith
+
+slice-aggregate-cells-2 : tie.Need-slice-aggregate-cells-2
+slice-aggregate-cells-2 c = sym (length-take-le _ _ (omega arith))
+
+read-cells-requires-2 : tie.Need-read-cells-requires-2
+read-cells-requires-2 c κs = let n = c .before .before .before .before .before in room-fits LARGEST (now (n .before .before .args .bytes)) _ (n .cell-count .ensures .0) _ (length-take-le _ _ (omega arith))
+
+forward-in-requires-2 : tie.Need-forward-in-requires-2
+forward-in-requires-2 c κs = let d = c .before .before in let n = d .before .before .before .before .before .before in
+    d .read-cells2 .ensures ∙ cells-read LARGEST (now (n .before .before .args .bytes)) _ (n .cell-count .ensures .0) _ (length-take-le _ _ (omega arith))
 
 same-length-3 : tie.Need-same-length-3
-same-length-3 c = c .before .before .forward-large .kept .0
+same-length-3 c = search needs
 
 returns-3 : tie.Need-returns-3
-returns-3 c = c .before .before .forward-large .ensures
+returns-3 c = search needs
 
 pub forward-spec : {M : Type 1} → statement M
 forward-spec =
@@ -46,9 +71,15 @@ forward-spec =
     forward-short-requires
     same-length
     returns
-    forward-middle-requires
+    array-borrow-prefix-room
+    slice-aggregate-cells
+    read-cells-requires
+    forward-in-requires
     same-length-2
     returns-2
-    forward-large-requires
+    array-borrow-prefix-room-2
+    slice-aggregate-cells-2
+    read-cells-requires-2
+    forward-in-requires-2
     same-length-3
     returns-3)

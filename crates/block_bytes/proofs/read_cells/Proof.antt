@@ -3,7 +3,7 @@ use mathlib.Core.Path.{refl, sym, _∙_}
 use native.Mathlib.Omega.{arith}
 use lib.Seq.{length-take-le}
 use denote.Ref.{now}
-use Rattle.cell_bytes.proofs.CellsRead.{front-decoded}
+use Rattle.cell_bytes.proofs.CellsRead.{front-read}
 use Rattle.block_bytes.proofs.read_cells.Statement.{statement}
 use Rattle.block_bytes.proofs.read_cells.Tie as tie
 
@@ -20,7 +20,7 @@ same-length : tie.Need-same-length
 same-length c = c .before .decode .kept .1 .0
 
 returns : tie.Need-returns
-returns c = let a = c .before .before .before .before .before .args in c .before .decode .ensures ∙ front-decoded (now (a .bytes)) (now (a .cells)) _ refl (omega arith)
+returns c = let a = c .before .before .before .before .before .args in c .before .decode .ensures ∙ front-read (now (a .bytes)) (now (a .cells)) _ refl (omega arith)
 
 pub read-cells-spec : {M : Type 1} → statement M
 read-cells-spec = tie.close (tie.spec mul-decode slice-aggregate-decode decode-requires same-length returns)

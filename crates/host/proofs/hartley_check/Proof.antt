@@ -2,8 +2,10 @@
 use mathlib.Core.Path.{_≡_, sym, _∙_, ap}
 use mathlib.Core.List.{List}
 use Prim.Native.Nat.{ℕ}
+use native.Mathlib.Omega.{arith}
 use Rattle.little_endian.specs.Reading.{Bytes}
-use Rattle.trace.specs.Contents.{contents}
+use Rattle.record.proofs.Places.{place-in-trace}
+use Rattle.trace.specs.Contents.{LONGEST, contents}
 use Rattle.trace.specs.TraceAnswers.{traceAnswer, contentsNumbers}
 use Rattle.trace.proofs.Fetching.{numbers-told}
 use Rattle.trace.proofs.Ranges.{accepted-range, refused-range}
@@ -15,40 +17,17 @@ use Rattle.host.proofs.hartley_check.Tie as tie
 -- r is the packed answer to the trace
 unpacks : (trace : List ℕ) (r : ℕ) → Bytes trace → r ≡ packedTrace (traceAnswer (contents trace)) → unpackedTrace r ≡ contentsNumbers (contents trace)
 unpacks trace r b e = ap unpackedTrace e
-    ∙ trace-unpacked (traceAnswer (contents trace)) (λ head blocks q. accepted-range trace head blocks q b)
+    ∙ trace-unpacked (traceAnswer (contents trace)) (λ refusal q. omega (arith, place-in-trace LONGEST refusal (refused-range trace refusal (sym q)))) (λ head blocks q. accepted-range trace head blocks (sym q) b)
     ∙ numbers-told (contents trace)
 
 check-requires : tie.Need-check-requires
 check-requires c κs = tt
 
-enum-known-refusal : tie.Need-enum-known-refusal
-enum-known-refusal c = c .match .keys1
-
-packed-refusal-requires : tie.Need-packed-refusal-requires
-packed-refusal-requires c κs = tt
-
-enum-known-head : tie.Need-enum-known-head
-enum-known-head c = c .match .keys2
-
 packed-trace-requires : tie.Need-packed-trace-requires
 packed-trace-requires c κs = tt
 
 returns : tie.Need-returns
-returns c = let k = c .before .before .before .before in let q = sym (c .before .before .refusal .given .1) ∙ k .check .ensures .0 in let e = c .packed-refusal .ensures (refused-range _ _ q) ∙ ap packedTrace q in
-    (e, unpacks _ _ (λ i. k .before .shared-slice-known .given i .fits) e)
-
-returns-2 : tie.Need-returns-2
-returns-2 c = let k = c .before .before .before .before in let e = c .packed-trace .ensures ∙ ap packedTrace (sym (c .before .before .head .given .1) ∙ k .check .ensures .0) in
-    (e, unpacks _ _ (λ i. k .before .shared-slice-known .given i .fits) e)
+returns c = let k = c .before in let e = c .packed-trace .ensures ∙ ap packedTrace (k .check .ensures .0) in (e, unpacks _ _ (λ i. k .before .shared-slice-known .given i .fits) e)
 
 pub hartley-check-spec : {M : Type 1} → statement M
-hartley-check-spec =
-    tie.close
-    (tie.spec
-    check-requires
-    enum-known-refusal
-    packed-refusal-requires
-    enum-known-head
-    packed-trace-requires
-    returns
-    returns-2)
+hartley-check-spec = tie.close (tie.spec check-requires packed-trace-requires returns)

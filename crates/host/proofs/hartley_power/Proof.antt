@@ -1,6 +1,6 @@
 -- `hartley_power` is right because `power` is.
 use borrow.Author.Needs.{needs}
-use Rattle.block_bytes.proofs.Calls.{told-so}
+use Rattle.line_bytes.proofs.Outputs.{power-told}
 use Rattle.host.proofs.hartley_power.Statement.{statement}
 use Rattle.host.proofs.hartley_power.Tie as tie
 
@@ -11,7 +11,7 @@ same-length : tie.Need-same-length
 same-length c = search needs
 
 returns : tie.Need-returns
-returns c = let a = c .before .before .power .ensures in (a .says, (told-so a, a .leaves))
+returns c = let a = c .before .before .power .ensures in (a .says, (power-told _ _ (a .says), a .leaves))
 
 pub hartley-power-spec : {M : Type 1} → statement M
 hartley-power-spec = tie.close (tie.spec power-requires same-length returns)

@@ -14,10 +14,10 @@ packed-refusal-requires : tie.Need-packed-refusal-requires
 packed-refusal-requires c κs = tt
 
 returns : tie.Need-returns
-returns c = λ h. sym (ap packed (c .enum-told .given .1))
+returns c = sym (ap packed (c .enum-told .given .1))
 
 returns-2 : tie.Need-returns-2
-returns-2 c = let e = c .before .before .answer .given .1 in λ h. c .packed-refusal .ensures (rw e at h) ∙ ap packed (sym e)
+returns-2 c = c .packed-refusal .ensures ∙ ap packed (sym (c .before .before .answer .given .1))
 
 pub packed-spec : {M : Type 1} → statement M
 packed-spec = tie.close (tie.spec enum-told enum-known-answer packed-refusal-requires returns returns-2)

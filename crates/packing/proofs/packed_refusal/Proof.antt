@@ -1,18 +1,17 @@
 -- `packed_refusal` is right because the number takes one byte and the place seven.
 use mathlib.Core.Path.{_≡_}
-use Prim.Native.Nat.{ℕ, _+_, _*_, _%_, _^_, _≤_}
+use Prim.Native.Nat.{ℕ, _+_, _*_, _%_, _^_}
 use native.Mathlib.Omega.{arith}
 use Rattle.refusal.specs.declared.Refusal.{Refusal}
 use Rattle.refusal.specs.RefusalTable.{number, place}
-use Rattle.trace.specs.Contents.{LONGEST}
 use Rattle.packing.specs.Packing.{packedRefusal}
 use Rattle.packing.proofs.Packing.{number-fits}
 use Rattle.packing.proofs.packed_refusal.Statement.{statement}
 use Rattle.packing.proofs.packed_refusal.Tie as tie
 
-packs : (refusal : Refusal) (n p r : ℕ) → n ≡ number refusal → p ≡ place refusal → r ≡ n + 256 * (p % 256 ^ 7) → place refusal ≤ LONGEST → r ≡ packedRefusal refusal
+packs : (refusal : Refusal) (n p r : ℕ) → n ≡ number refusal → p ≡ place refusal → r ≡ n + 256 * (p % 256 ^ 7) → r ≡ packedRefusal refusal
 unfolding packedRefusal
-packs refusal n p r en ep er h = omega arith
+packs refusal n p r en ep er = omega arith
 
 number-requires : tie.Need-number-requires
 number-requires c κs = tt

@@ -1,27 +1,26 @@
--- `packed_trace` is right because the lower bytes of each number are as many as it has, and so the bytes of all spell the sum that is computed.
-use mathlib.Core.Path.{sym, _∙_}
-use native.Mathlib.Omega.{arith}
-use Rattle.packing.proofs.Packing.{accepted-packed}
+-- `packed_trace` is right because each case is that of the definition.
+use mathlib.Core.Path.{sym, _∙_, ap}
+use Rattle.packing.specs.Packing.{packedTrace}
 use Rattle.packing.proofs.packed_trace.Statement.{statement}
 use Rattle.packing.proofs.packed_trace.Tie as tie
 
-mul-result : tie.Need-mul-result
-mul-result c = omega arith
+enum-known-answer : tie.Need-enum-known-answer
+enum-known-answer c = c .match .keys1
 
-add-result : tie.Need-add-result
-add-result c = omega arith
+packed-refusal-requires : tie.Need-packed-refusal-requires
+packed-refusal-requires c κs = tt
 
-mul-result-2 : tie.Need-mul-result-2
-mul-result-2 c = omega arith
+enum-known-answer-2 : tie.Need-enum-known-answer-2
+enum-known-answer-2 c = c .match .keys2
 
-add-result-2 : tie.Need-add-result-2
-add-result-2 c = omega arith
-
-mul-result-3 : tie.Need-mul-result-3
-mul-result-3 c = omega arith
+packed-contents-requires : tie.Need-packed-contents-requires
+packed-contents-requires c κs = tt
 
 returns : tie.Need-returns
-returns c = omega arith ∙ sym (accepted-packed (c .args .head) (c .args .blocks))
+returns c = c .packed-refusal .ensures ∙ ap packedTrace (sym (c .before .before .answer .given .1))
+
+returns-2 : tie.Need-returns-2
+returns-2 c = c .packed-contents .ensures ∙ ap packedTrace (sym (c .before .before .answer2 .given .1))
 
 pub packed-trace-spec : {M : Type 1} → statement M
-packed-trace-spec = tie.close (tie.spec mul-result add-result mul-result-2 add-result-2 mul-result-3 returns)
+packed-trace-spec = tie.close (tie.spec enum-known-answer packed-refusal-requires enum-known-answer-2 packed-contents-requires returns returns-2)
