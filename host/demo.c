@@ -1,59 +1,109 @@
 /*
- * How a host in C uses the spectrum engine and the trace check: each entry is called; its answer, and the cells of the
- * blocks worked by hand, are shown and compared. Ends with "demo: ok", or with what went wrong and exit status 1.
+ * How a host in C uses the spectrum engine and the trace reader: each entry is called; its answer, and the cells and
+ * scaled lines of the blocks worked by hand, are shown and compared. Ends with "demo: ok", or with what went wrong and
+ * exit status 1.
  */
 #include "hartley.h"
 
 #include <inttypes.h>
+#include <math.h>
 #include <stdio.h>
 #include <stdlib.h>
 #include <string.h>
 
-enum { CELL = 8, LOUDEST = 1 << 28, TRACE = 32 };
-enum entry { FORWARD, BACKWARD, POWER };
+#define COUNT(rows) (sizeof(rows) / sizeof(rows)[0])
+/* What both doubles hold before a scaled line is asked for; none is as large. */
+#define LENT 1e300
+/* What is left of 2^64 - 1 where it is the place of a refusal, which has seven bytes in an answer. */
+#define PLACE_MAX (UINT64_MAX >> 8)
 
-/* Blocks worked by hand: samples, spectrum, doubled powers. */
-static const struct worked { size_t n; int64_t samples[8], spectrum[8], powers[5]; } worked[] = {
-    {2, {0, 0}, {0, 0}, {0, 0}},
-    {2, {3, -5}, {-2, 8}, {8, 128}},
-    {4, {1, 2, 3, 4}, {10, -4, -2, 0}, {200, 16, 8}},
-    {8, {1, 2, 3, 4, 5, 6, 7, 8}, {36, -14, -8, -6, -4, -2, 0, 6}, {2592, 232, 64, 40, 32}},
-    {8, {0, 1, 0, 0, 0, 0, 0, 0}, {1, 1, 1, 0, -1, -1, -1, 0}, {2, 1, 2, 1, 2}},
+enum { CELL = 8, LOUDEST = 1 << 28, TRACE = 32, THREE = 69 };
+enum entry { FORWARD, BACKWARD, PARTS, POWER };
+
+/* Blocks worked by hand: samples, spectrum, doubled parts, doubled powers, and of each scaled line the two doubles. */
+static const struct worked {
+    size_t n;
+    int64_t samples[8], spectrum[8], real[5], imaginary[5], powers[5];
+    double scaled[5][2];
+} worked[] = {
+    {2, {0, 0}, {0, 0}, {0, 0}, {0, 0}, {0, 0}, {{0, LENT}, {0, LENT}}},
+    {2, {3, -5}, {-2, 8}, {-4, 16}, {0, 0}, {8, 128}, {{-1, LENT}, {4, LENT}}},
+    {4, {1, 2, 3, 4}, {10, -4, -2, 0}, {20, -4, -4}, {0, 4, 0}, {200, 16, 8}, {{2.5, LENT}, {-0.5, 0.5}, {-0.5, LENT}}},
+    {8, {1, 2, 3, 4, 5, 6, 7, 8}, {36, -14, -8, -6, -4, -2, 0, 6}, {72, -8, -8, -8, -8}, {0, 20, 8, 4, 0},
+     {2592, 232, 64, 40, 32}, {{4.5, LENT}, {-0.5, 1.25}, {-0.5, 0.5}, {-0.5, 0.25}, {-0.5, LENT}}},
+    {8, {0, 1, 0, 0, 0, 0, 0, 0}, {1, 1, 1, 0, -1, -1, -1, 0}, {2, 1, 0, -1, -2}, {0, -1, -2, -1, 0}, {2, 1, 2, 1, 2},
+     {{0.125, LENT}, {0.0625, -0.0625}, {0, -0.125}, {-0.0625, -0.0625}, {-0.125, LENT}}},
     /* 5,792.5 goes away from zero, and the negative of the block has the negative spectrum */
-    {8, {0, 4096, 0, 0, 0, 0, 0, 0}, {4096, 5793, 4096, 0, -4096, -5793, -4096, 0},
-     {33554432, 33558849, 33554432, 33558849, 33554432}},
-    {8, {0, -4096, 0, 0, 0, 0, 0, 0}, {-4096, -5793, -4096, 0, 4096, 5793, 4096, 0},
-     {33554432, 33558849, 33554432, 33558849, 33554432}},
+    {8, {0, 4096, 0, 0, 0, 0, 0, 0}, {4096, 5793, 4096, 0, -4096, -5793, -4096, 0}, {8192, 5793, 0, -5793, -8192},
+     {0, -5793, -8192, -5793, 0}, {33554432, 33558849, 33554432, 33558849, 33554432},
+     {{512, LENT}, {362.0625, -362.0625}, {0, -512}, {-362.0625, -362.0625}, {-512, LENT}}},
+    {8, {0, -4096, 0, 0, 0, 0, 0, 0}, {-4096, -5793, -4096, 0, 4096, 5793, 4096, 0}, {-8192, -5793, 0, 5793, 8192},
+     {0, 5793, 8192, 5793, 0}, {33554432, 33558849, 33554432, 33558849, 33554432},
+     {{-512, LENT}, {-362.0625, 362.0625}, {0, 512}, {362.0625, 362.0625}, {512, LENT}}},
 };
 
-/* Blocks at the bounds and beyond: cells 1, 2, 3 and so on, but the one at the place. A number of 0 is accepted. */
+/* Blocks at the bounds and beyond: cells 1, 2, 3 and so on, but the one at the place. A number of 0 is accepted. The
+   outputs are the real and the imaginary parts, or the powers. */
 static const struct bound {
     const char *what;
     enum entry entry;
-    size_t bytes, powers_bytes, place;
+    size_t bytes, output_bytes[2], place;
     int64_t cell;
     uint64_t number;
 } bounds[] = {
-    {"forward, 0 cells", FORWARD, 0, 0, 0, 1, HARTLEY_LENGTH},
-    {"forward, 1 cell", FORWARD, CELL, 0, 0, 1, HARTLEY_LENGTH},
-    {"forward, 3 cells", FORWARD, 3 * CELL, 0, 0, 1, HARTLEY_LENGTH},
-    {"forward, 2 cells and a byte", FORWARD, 2 * CELL + 1, 0, 0, 1, HARTLEY_LENGTH},
-    {"forward, 2048 cells", FORWARD, 2048 * CELL, 0, 0, 1, HARTLEY_LENGTH},
-    {"forward, 1024 cells", FORWARD, 1024 * CELL, 0, 0, 1, 0},
-    {"forward, cell 5 is 32768", FORWARD, 8 * CELL, 0, 5, 32768, HARTLEY_LOUD},
-    {"forward, cell 7 is -32769", FORWARD, 8 * CELL, 0, 7, -32769, HARTLEY_LOUD},
-    {"forward, cell 7 is -32768", FORWARD, 8 * CELL, 0, 7, -32768, 0},
-    {"backward, 3 cells", BACKWARD, 3 * CELL, 0, 0, 1, HARTLEY_LENGTH},
-    {"backward, 2 cells less a byte", BACKWARD, 2 * CELL - 1, 0, 0, 1, HARTLEY_LENGTH},
-    {"backward, cell 1023 is 2^28 + 1", BACKWARD, 1024 * CELL, 0, 1023, LOUDEST + 1, HARTLEY_LOUD},
-    {"backward, cell 1023 is -2^28", BACKWARD, 1024 * CELL, 0, 1023, -LOUDEST, 0},
-    {"power, 3 cells into none", POWER, 3 * CELL, 0, 0, 1, HARTLEY_LENGTH},
-    {"power, 4 cells and a byte", POWER, 4 * CELL + 1, 3 * CELL, 0, 1, HARTLEY_LENGTH},
-    {"power, 4 cells into 2", POWER, 4 * CELL, 2 * CELL, 0, LOUDEST + 1, HARTLEY_MISFIT},
-    {"power, 4 cells into 4", POWER, 4 * CELL, 4 * CELL, 0, 1, HARTLEY_MISFIT},
-    {"power, 4 cells into 3 and a byte", POWER, 4 * CELL, 3 * CELL + 1, 0, 1, HARTLEY_MISFIT},
-    {"power, cell 2 is -2^28 - 1", POWER, 4 * CELL, 3 * CELL, 2, -LOUDEST - 1, HARTLEY_LOUD},
-    {"power, cell 2 is 2^28", POWER, 4 * CELL, 3 * CELL, 2, LOUDEST, 0},
+    {"forward, 0 cells", FORWARD, 0, {0}, 0, 1, HARTLEY_LENGTH},
+    {"forward, 1 cell", FORWARD, CELL, {0}, 0, 1, HARTLEY_LENGTH},
+    {"forward, 3 cells", FORWARD, 3 * CELL, {0}, 0, 1, HARTLEY_LENGTH},
+    {"forward, 2 cells and a byte", FORWARD, 2 * CELL + 1, {0}, 0, 1, HARTLEY_LENGTH},
+    {"forward, 2048 cells", FORWARD, 2048 * CELL, {0}, 0, 1, HARTLEY_LENGTH},
+    {"forward, 1024 cells", FORWARD, 1024 * CELL, {0}, 0, 1, 0},
+    {"forward, cell 5 is 32768", FORWARD, 8 * CELL, {0}, 5, 32768, HARTLEY_LOUD},
+    {"forward, cell 7 is -32769", FORWARD, 8 * CELL, {0}, 7, -32769, HARTLEY_LOUD},
+    {"forward, cell 7 is -32768", FORWARD, 8 * CELL, {0}, 7, -32768, 0},
+    {"backward, 3 cells", BACKWARD, 3 * CELL, {0}, 0, 1, HARTLEY_LENGTH},
+    {"backward, 2 cells less a byte", BACKWARD, 2 * CELL - 1, {0}, 0, 1, HARTLEY_LENGTH},
+    {"backward, cell 1023 is 2^28 + 1", BACKWARD, 1024 * CELL, {0}, 1023, LOUDEST + 1, HARTLEY_LOUD},
+    {"backward, cell 1023 is -2^28", BACKWARD, 1024 * CELL, {0}, 1023, -LOUDEST, 0},
+    {"parts, 3 cells into none", PARTS, 3 * CELL, {0, 0}, 0, 1, HARTLEY_LENGTH},
+    {"parts, 4 cells and a byte", PARTS, 4 * CELL + 1, {3 * CELL, 3 * CELL}, 0, 1, HARTLEY_LENGTH},
+    {"parts, 4 cells into 2 and 3", PARTS, 4 * CELL, {2 * CELL, 3 * CELL}, 0, LOUDEST + 1, HARTLEY_MISFIT},
+    {"parts, 4 cells into 3 and 2", PARTS, 4 * CELL, {3 * CELL, 2 * CELL}, 0, LOUDEST + 1, HARTLEY_MISFIT},
+    {"parts, 4 cells into 4 and 3", PARTS, 4 * CELL, {4 * CELL, 3 * CELL}, 0, 1, HARTLEY_MISFIT},
+    {"parts, 4 cells into 3 and 4", PARTS, 4 * CELL, {3 * CELL, 4 * CELL}, 0, 1, HARTLEY_MISFIT},
+    {"parts, 4 cells into 3 and a byte, and 3", PARTS, 4 * CELL, {3 * CELL + 1, 3 * CELL}, 0, 1, HARTLEY_MISFIT},
+    {"parts, 4 cells into 3, and 3 and a byte", PARTS, 4 * CELL, {3 * CELL, 3 * CELL + 1}, 0, 1, HARTLEY_MISFIT},
+    {"parts, cell 3 is 2^28 + 1", PARTS, 4 * CELL, {3 * CELL, 3 * CELL}, 3, LOUDEST + 1, HARTLEY_LOUD},
+    {"parts, cell 3 is -2^28 - 1", PARTS, 4 * CELL, {3 * CELL, 3 * CELL}, 3, -LOUDEST - 1, HARTLEY_LOUD},
+    {"parts, cell 3 is 2^28", PARTS, 4 * CELL, {3 * CELL, 3 * CELL}, 3, LOUDEST, 0},
+    {"parts, cell 1023 is -2^28", PARTS, 1024 * CELL, {513 * CELL, 513 * CELL}, 1023, -LOUDEST, 0},
+    {"power, 3 cells into none", POWER, 3 * CELL, {0}, 0, 1, HARTLEY_LENGTH},
+    {"power, 4 cells and a byte", POWER, 4 * CELL + 1, {3 * CELL}, 0, 1, HARTLEY_LENGTH},
+    {"power, 4 cells into 2", POWER, 4 * CELL, {2 * CELL}, 0, LOUDEST + 1, HARTLEY_MISFIT},
+    {"power, 4 cells into 4", POWER, 4 * CELL, {4 * CELL}, 0, 1, HARTLEY_MISFIT},
+    {"power, 4 cells into 3 and a byte", POWER, 4 * CELL, {3 * CELL + 1}, 0, 1, HARTLEY_MISFIT},
+    {"power, cell 2 is -2^28 - 1", POWER, 4 * CELL, {3 * CELL}, 2, -LOUDEST - 1, HARTLEY_LOUD},
+    {"power, cell 2 is 2^28", POWER, 4 * CELL, {3 * CELL}, 2, LOUDEST, 0},
+};
+
+/* Scaled lines at the bounds and beyond, of such blocks: the refusal and its place, or 0 and the case. */
+static const struct line_bound {
+    const char *what;
+    size_t bytes, line, at;
+    int64_t cell;
+    uint64_t number, place_or_case;
+} line_bounds[] = {
+    {"scaled, line 9 of 3 cells", 3 * CELL, 9, 0, 1, HARTLEY_LENGTH, 0},
+    {"scaled, line 0 of 2 cells less a byte", 2 * CELL - 1, 0, 0, 1, HARTLEY_LENGTH, 0},
+    {"scaled, line 9, cell 2 is 2^28 + 1", 4 * CELL, 9, 2, LOUDEST + 1, HARTLEY_LOUD, 2},
+    {"scaled, line 0, cell 3 is -2^28 - 1", 4 * CELL, 0, 3, -LOUDEST - 1, HARTLEY_LOUD, 3},
+    {"scaled, line 0, cell 0 is 2^28", 4 * CELL, 0, 0, LOUDEST, 0, HARTLEY_MEAN},
+    {"scaled, line 1, cell 3 is -2^28", 4 * CELL, 1, 3, -LOUDEST, 0, HARTLEY_PAIR},
+    {"scaled, line 1 of 2 cells", 2 * CELL, 1, 0, 1, 0, HARTLEY_LAST},
+    {"scaled, line 2 of 2 cells", 2 * CELL, 2, 0, 1, HARTLEY_LINE, 2},
+    {"scaled, line 511 of 1024 cells", 1024 * CELL, 511, 0, 1, 0, HARTLEY_PAIR},
+    {"scaled, line 512 of 1024 cells", 1024 * CELL, 512, 0, 1, 0, HARTLEY_LAST},
+    {"scaled, line 513 of 1024 cells", 1024 * CELL, 513, 0, 1, HARTLEY_LINE, 513},
+    {"scaled, line 2^64 - 1", 1024 * CELL, SIZE_MAX, 0, 1, HARTLEY_LINE, PLACE_MAX},
 };
 
 /* A whole trace, and after it one byte for the trace that has a byte after its end. */
@@ -75,6 +125,38 @@ static const struct fault { const char *what; size_t bytes, at; uint8_t byte; ui
     {"check, a byte after the end", TRACE + 1, 0, 6, HARTLEY_ORDER, TRACE},
     {"check, a block of 7 bytes", TRACE, 12, 7, HARTLEY_SIZE, 12},
     {"check, P is 11", TRACE, 10, 11, HARTLEY_HEAD, 0},
+};
+
+/* A trace of three blocks, with a note between. */
+static const uint8_t three[THREE] = {
+    6, 0, 0, 0, 1, 0, 0x44, 0xac, 0, 0, 2, 0,                /* head: 44,100 samples a second, P = 2 */
+    8, 0, 0, 0, 2, 0, 1, 0, 2, 0, 3, 0, 4, 0,                /* block 0: 1, 2, 3, 4 */
+    3, 0, 0, 0, 3, 0, 'r', 'y', 'e',                         /* note */
+    8, 0, 0, 0, 2, 0, 0, 0x80, 0xff, 0x7f, 0xff, 0xff, 0, 0, /* block 1: -32,768, 32,767, -1, 0 */
+    8, 0, 0, 0, 2, 0, 5, 0, 0, 0, 0, 1, 0xfe, 0xff,          /* block 2: 5, 0, 256, -2 */
+    0, 0, 0, 0, 4, 0                                         /* end */
+};
+
+/* Its blocks fetched, and what is refused, also where it is cut: the refusal and its place, or 0 and the samples. */
+static const struct fetched {
+    const char *what;
+    size_t bytes, k, cells_bytes;
+    uint64_t number, place;
+    int64_t samples[4];
+} fetches[] = {
+    {"fetch, block 0", THREE, 0, 4 * CELL, 0, 0, {1, 2, 3, 4}},
+    {"fetch, block 1", THREE, 1, 4 * CELL, 0, 0, {-32768, 32767, -1, 0}},
+    {"fetch, block 2", THREE, 2, 4 * CELL, 0, 0, {5, 0, 256, -2}},
+    {"fetch, block 3", THREE, 3, 4 * CELL, HARTLEY_ABSENT, 3, {0}},
+    {"fetch, block 3 into 3 cells", THREE, 3, 3 * CELL, HARTLEY_ABSENT, 3, {0}},
+    {"fetch, block 2^64 - 1", THREE, SIZE_MAX, 4 * CELL, HARTLEY_ABSENT, PLACE_MAX, {0}},
+    {"fetch, block 2 into 3 cells", THREE, 2, 3 * CELL, HARTLEY_MISFIT, 0, {0}},
+    {"fetch, block 2 into 5 cells", THREE, 2, 5 * CELL, HARTLEY_MISFIT, 0, {0}},
+    {"fetch, block 2 into 4 cells and a byte", THREE, 2, 4 * CELL + 1, HARTLEY_MISFIT, 0, {0}},
+    {"fetch, block 2 into none", THREE, 2, 0, HARTLEY_MISFIT, 0, {0}},
+    {"fetch, block 0, cut within the end", THREE - 1, 0, 4 * CELL, HARTLEY_CUT, THREE - 6, {0}},
+    {"fetch, block 3 into none, cut within the end", THREE - 1, 3, 0, HARTLEY_CUT, THREE - 6, {0}},
+    {"fetch, block 0 of an empty trace", 0, 0, 4 * CELL, HARTLEY_CUT, 0, {0}},
 };
 
 static _Noreturn void fail(const char *what)
@@ -99,6 +181,23 @@ static uint8_t *copy_of(const uint8_t *list, size_t bytes)
     return memcpy(new_list(bytes), list, bytes);
 }
 
+/* A list that is lent, and what it held before. */
+struct lent { size_t bytes; uint8_t *list, *before; };
+
+static struct lent lend(uint8_t *list, size_t bytes)
+{
+    return (struct lent){bytes, list, copy_of(list, bytes)};
+}
+
+/* Takes a list back. It is kept where it is as it was: where it is lent to be read alone, or the call refused. */
+static void take_back(struct lent lent, int kept)
+{
+    if (kept && memcmp(lent.list, lent.before, lent.bytes) != 0)
+        fail("lent bytes were changed that are to be kept");
+    free(lent.list);
+    free(lent.before);
+}
+
 /* Writes a cell: eight bytes, two's complement, least byte first. */
 static void put_cell(uint8_t *at, int64_t cell)
 {
@@ -112,6 +211,15 @@ static int64_t get_cell(const uint8_t *at)
     for (int i = 0; i < CELL; i++)
         bits |= (uint64_t)at[i] << 8 * i;
     return bits <= INT64_MAX ? (int64_t)bits : -(int64_t)~bits - 1;
+}
+
+/* A list of so many bytes with the cells 1, 2, 3 and so on, but the one at the place. */
+static uint8_t *new_block(size_t bytes, size_t place, int64_t cell)
+{
+    uint8_t *list = new_list(bytes);
+    for (size_t t = 0; CELL * (t + 1) <= bytes; t++)
+        put_cell(list + CELL * t, t == place ? cell : (int64_t)t + 1);
+    return list;
 }
 
 /* Shows an answer and compares it: the number of the refusal, or 0, and the refusal's place. */
@@ -139,52 +247,95 @@ static void expect_cells(const char *what, uint64_t answer, const uint8_t *list,
         fail("another answer or other cells were expected");
 }
 
-/* Forward, then power, then backward of a block worked by hand. */
+/* Whether a double is the expected one: minus zero is not zero. */
+static int same_double(double found, double expected)
+{
+    return found == expected && !signbit(found) == !signbit(expected);
+}
+
+/* Shows a scaled line of a block worked by hand, and compares it. What is not filled is kept. */
+static void show_scaled(const struct worked *row, const uint8_t *spectrum, size_t line)
+{
+    double real = LENT, imaginary = LENT;
+    uint64_t answer = hartley_scaled(spectrum, CELL * row->n, line, &real, &imaginary);
+    uint64_t expected = line == 0 ? HARTLEY_MEAN : line == row->n / 2 ? HARTLEY_LAST : HARTLEY_PAIR;
+    if (hartley_number(answer) != 0 || hartley_case(answer) != expected)
+        fail("another answer to a scaled line was expected");
+    if (expected == HARTLEY_PAIR)
+        printf("  scaled line %zu: pair %.10g, %.10g\n", line, real, imaginary);
+    else
+        printf("  scaled line %zu: %s %.10g\n", line, expected == HARTLEY_MEAN ? "mean" : "last", real);
+    if (!same_double(real, row->scaled[line][0]) || !same_double(imaginary, row->scaled[line][1]))
+        fail("another scaled line was expected");
+}
+
+/* Forward of a block worked by hand, the parts, power and scaled lines of its spectrum, then backward. */
 static void show_worked(const struct worked *row)
 {
     size_t bytes = CELL * row->n, lines = row->n / 2 + 1;
     uint8_t *cells = new_list(bytes), *powers = new_list(CELL * lines);
+    uint8_t *real = new_list(CELL * lines), *imaginary = new_list(CELL * lines);
     for (size_t t = 0; t < row->n; t++)
         put_cell(cells + CELL * t, row->samples[t]);
     expect_cells("block", 0, cells, row->samples, row->n);
     uint64_t answer = hartley_forward(cells, bytes);
     expect_cells("  forward", answer, cells, row->spectrum, row->n);
+    answer = hartley_parts(cells, bytes, real, CELL * lines, imaginary, CELL * lines);
+    expect_cells("  doubled real part", answer, real, row->real, lines);
+    expect_cells("  doubled imaginary part", answer, imaginary, row->imaginary, lines);
     answer = hartley_power(cells, bytes, powers, CELL * lines);
     expect_cells("  doubled power", answer, powers, row->powers, lines);
+    for (size_t v = 0; v < lines; v++)
+        show_scaled(row, cells, v);
     answer = hartley_backward(cells, bytes);
     expect_cells("  backward", answer, cells, row->samples, row->n);
     free(cells);
     free(powers);
+    free(real);
+    free(imaginary);
 }
 
-static uint64_t call(enum entry entry, uint8_t *cells, size_t bytes, uint8_t *powers, size_t powers_bytes)
+static uint64_t call(enum entry entry, struct lent cells, struct lent first, struct lent second)
 {
     switch (entry) {
     case FORWARD:
-        return hartley_forward(cells, bytes);
+        return hartley_forward(cells.list, cells.bytes);
     case BACKWARD:
-        return hartley_backward(cells, bytes);
+        return hartley_backward(cells.list, cells.bytes);
+    case PARTS:
+        return hartley_parts(cells.list, cells.bytes, first.list, first.bytes, second.list, second.bytes);
     default:
-        return hartley_power(cells, bytes, powers, powers_bytes);
+        return hartley_power(cells.list, cells.bytes, first.list, first.bytes);
     }
 }
 
-/* A block at the bounds or beyond. Where it is refused, all that was lent is left as it was. */
+/* A block at the bounds or beyond. Where it is refused, all that was lent is left as it was. What parts and power read
+   always is. */
 static void show_bound(const struct bound *row)
 {
-    uint8_t *cells = new_list(row->bytes), *powers = new_list(row->powers_bytes);
-    for (size_t t = 0; CELL * (t + 1) <= row->bytes; t++)
-        put_cell(cells + CELL * t, t == row->place ? row->cell : (int64_t)t + 1);
-    uint8_t *cells_before = copy_of(cells, row->bytes), *powers_before = copy_of(powers, row->powers_bytes);
-    uint64_t answer = call(row->entry, cells, row->bytes, powers, row->powers_bytes);
+    const size_t *output_bytes = row->output_bytes;
+    struct lent cells = lend(new_block(row->bytes, row->place, row->cell), row->bytes);
+    struct lent first = lend(new_list(output_bytes[0]), output_bytes[0]);
+    struct lent second = lend(new_list(output_bytes[1]), output_bytes[1]);
+    uint64_t answer = call(row->entry, cells, first, second);
     expect(row->what, answer, row->number, row->place);
-    int same = memcmp(cells, cells_before, row->bytes) == 0 && memcmp(powers, powers_before, row->powers_bytes) == 0;
-    if (answer != 0 && !same)
-        fail("a refused call has changed lent bytes");
-    free(cells);
-    free(powers);
-    free(cells_before);
-    free(powers_before);
+    take_back(cells, answer != 0 || row->entry == PARTS || row->entry == POWER);
+    take_back(first, answer != 0);
+    take_back(second, answer != 0);
+}
+
+/* A scaled line at the bounds or beyond. Where it is refused, both doubles are left as they were. */
+static void show_line_bound(const struct line_bound *row)
+{
+    struct lent cells = lend(new_block(row->bytes, row->at, row->cell), row->bytes);
+    double real = LENT, imaginary = LENT;
+    uint64_t answer = hartley_scaled(cells.list, cells.bytes, row->line, &real, &imaginary);
+    expect(row->what, answer, row->number, row->place_or_case);
+    if (row->number == 0 && hartley_case(answer) != row->place_or_case)
+        fail("another case was expected");
+    if (row->number != 0 && (real != LENT || imaginary != LENT))
+        fail("a refused call has changed a lent double");
+    take_back(cells, 1);
 }
 
 /* The check of a trace that is lent as a list of exactly its bytes. */
@@ -196,14 +347,20 @@ static uint64_t check_of(const uint8_t *trace, size_t bytes)
     return answer;
 }
 
+/* Shows what the answer to an accepted trace says, and compares it. */
+static void expect_trace(uint64_t answer, uint64_t rate, uint64_t p, uint64_t blocks)
+{
+    printf("  rate %" PRIu64 ", P %" PRIu64 ", blocks %" PRIu64 "\n", hartley_rate(answer), hartley_p(answer),
+           hartley_blocks(answer));
+    if (hartley_rate(answer) != rate || hartley_p(answer) != p || hartley_blocks(answer) != blocks)
+        fail("another rate, P or number of blocks was expected");
+}
+
 static void show_whole(void)
 {
     uint64_t answer = check_of(whole, TRACE);
     expect("check, a whole trace", answer, 0, 0);
-    printf("  rate %" PRIu64 ", P %" PRIu64 ", blocks %" PRIu64 "\n", hartley_rate(answer), hartley_p(answer),
-           hartley_blocks(answer));
-    if (hartley_rate(answer) != 8000 || hartley_p(answer) != 2 || hartley_blocks(answer) != 1)
-        fail("another rate, P or number of blocks was expected");
+    expect_trace(answer, 8000, 2, 1);
 }
 
 static void show_fault(const struct fault *row)
@@ -226,20 +383,41 @@ static uint64_t check_of_note(size_t length)
     return check_of(trace, 18 + length + 6);
 }
 
+/* A block fetched, or refused: then the lent cells are left as they were. The trace always is. */
+static void show_fetch(const struct fetched *row)
+{
+    struct lent trace = lend(copy_of(three, row->bytes), row->bytes);
+    struct lent cells = lend(new_list(row->cells_bytes), row->cells_bytes);
+    uint64_t answer = hartley_fetch(trace.list, trace.bytes, row->k, cells.list, cells.bytes);
+    expect(row->what, answer, row->number, row->place);
+    if (row->number == 0) {
+        expect_trace(answer, 44100, 2, 3);
+        expect_cells("  samples", 0, cells.list, row->samples, 4);
+        if (answer != hartley_check(trace.list, trace.bytes))
+            fail("another answer than that of the check");
+    }
+    take_back(trace, 1);
+    take_back(cells, row->number != 0);
+}
+
 int main(void)
 {
     static const uint8_t zeros[65537];
-    for (size_t i = 0; i < sizeof worked / sizeof worked[0]; i++)
+    for (size_t i = 0; i < COUNT(worked); i++)
         show_worked(&worked[i]);
-    for (size_t i = 0; i < sizeof bounds / sizeof bounds[0]; i++)
+    for (size_t i = 0; i < COUNT(bounds); i++)
         show_bound(&bounds[i]);
+    for (size_t i = 0; i < COUNT(line_bounds); i++)
+        show_line_bound(&line_bounds[i]);
     show_whole();
-    for (size_t i = 0; i < sizeof faults / sizeof faults[0]; i++)
+    for (size_t i = 0; i < COUNT(faults); i++)
         show_fault(&faults[i]);
     expect("check, a note of 255 bytes", check_of_note(255), 0, 0);
     expect("check, a note of 256 bytes", check_of_note(256), HARTLEY_SIZE, 12);
     expect("check, 65537 bytes", check_of(zeros, 65537), HARTLEY_LONG, 0);
     expect("check, 65536 bytes of 0", check_of(zeros, 65536), HARTLEY_KIND, 0);
+    for (size_t i = 0; i < COUNT(fetches); i++)
+        show_fetch(&fetches[i]);
     printf("demo: ok\n");
     return 0;
 }

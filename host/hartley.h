@@ -1,12 +1,13 @@
 /*
- * The spectrum engine and the trace check of the crispness bench, for hosts in C on x86-64. Link with libhartley.a.
+ * The spectrum engine and the trace reader of the crispness bench, for hosts in C on x86-64. Link with libhartley.a.
  *
- * Every call ends, whatever bytes it is given, and tests them itself. It keeps nothing between calls, and reads and writes
- * only the bytes that it is lent. Where it refuses, every lent byte is as it was.
+ * Every call ends, whatever it is given, and tests that itself. It keeps nothing between calls, and reads and writes
+ * only what it is lent. Where it refuses, all that is lent is as it was.
  *
  * A cell is eight bytes, two's complement, least byte first, at any address. Every count is one of bytes, not of cells.
- * The host owes three things: no pointer is null, not even with a count of 0; as many bytes are lent as the count says;
- * and the two lists of hartley_power do not overlap.
+ * The host owes four things: no pointer is null, not even with a count of 0; as many bytes are lent as the count says;
+ * nothing that is lent to be written overlaps anything else lent to the same call; and the two doubles of
+ * hartley_scaled are aligned as any double.
  *
  * Each answer is one number. Its least byte is the number of the refusal, or 0 where nothing is refused; hartley_number
  * reads it.
@@ -22,23 +23,33 @@ extern "C" {
 #endif
 
 /*
- * Refused input. Block calls test 1, 2 and 3 in turn. A trace is tested for 10; then each record for 11 (six bytes), 12,
- * 13, 14, 11 (payload), 15; the first fault found decides. A byte after the end is looked for last, once the end's own
- * length has passed 14. The refusals 4 (line) and 16 (absent) are given by no call here.
+ * Refused input. Block calls test 1, 2, 3 and 4 in turn. A trace is tested for 10; then each record for 11 (six bytes),
+ * 12, 13, 14, 11 (payload), 15; the first fault found decides. A byte after the end is looked for last, once the end's
+ * own length has passed 14. A fetch then tests 16, then 2.
  */
 enum hartley_refusal {
     HARTLEY_LENGTH = 1,  /* block is not 2 to 1,024 cells and a power of two, or its count of bytes is no multiple of
                             eight; place 0 */
-    HARTLEY_MISFIT = 2,  /* a lent output not N/2 + 1 cells, or its count of bytes is no multiple of eight; place 0 */
-    HARTLEY_LOUD = 3,    /* forward: a cell outside -32,768 to 32,767; backward and power: outside +-2^28;
+    HARTLEY_MISFIT = 2,  /* a lent output not N cells (fetch) or N/2 + 1 (parts, power), or its count of bytes is no
+                            multiple of eight; place 0 */
+    HARTLEY_LOUD = 3,    /* forward: a cell outside -32,768 to 32,767; any call that takes a spectrum: outside +-2^28;
                             place the first such cell */
+    HARTLEY_LINE = 4,    /* scaled line above N/2; place that line */
     HARTLEY_LONG = 10,   /* trace above 65,536 bytes; place 0 */
     HARTLEY_CUT = 11,    /* fewer than 6 bytes left before the end is read, or payload incomplete;
                             place the record's first byte */
     HARTLEY_KIND = 12,   /* kind not 1 to 4; same place */
     HARTLEY_ORDER = 13,  /* not the head first, a second head, or a byte after the end; same place, or that byte */
     HARTLEY_SIZE = 14,   /* length wrong for the kind; same place */
-    HARTLEY_HEAD = 15    /* rate 0 or P outside 1 to 10; same place */
+    HARTLEY_HEAD = 15,   /* rate 0 or P outside 1 to 10; same place */
+    HARTLEY_ABSENT = 16  /* fetch of block k, k not below the count; place k */
+};
+
+/* The cases of a scaled line, by the line asked for. */
+enum hartley_scaled_line {
+    HARTLEY_MEAN = 1,  /* line 0 */
+    HARTLEY_LAST = 2,  /* line N/2 */
+    HARTLEY_PAIR = 3   /* every other line */
 };
 
 /* The forward spectrum of a block of N samples, in place of the samples. Answers 0, or a refusal: 1 or 3. The negative of a
@@ -49,20 +60,40 @@ uint64_t hartley_forward(uint8_t *cells, size_t cells_bytes);
    answer and the negative block. */
 uint64_t hartley_backward(uint8_t *cells, size_t cells_bytes);
 
+/* The doubled real and imaginary parts of lines 0 to N/2 of a spectrum H of N cells, each N/2 + 1 cells: H(v) + H(N-v)
+   and H(N-v) - H(v), with H(N) read as H(0). Answers 0, or a refusal: 1, 2 or 3. */
+uint64_t hartley_parts(const uint8_t *spectrum, size_t spectrum_bytes, uint8_t *real, size_t real_bytes,
+                       uint8_t *imaginary, size_t imaginary_bytes);
+
 /* The doubled powers of lines 0 to N/2 of a spectrum of N cells. Answers 0, or a refusal: 1, 2 or 3. */
 uint64_t hartley_power(const uint8_t *spectrum, size_t spectrum_bytes, uint8_t *powers, size_t powers_bytes);
+
+/* One scaled line v of a spectrum H of N cells. Line 0 is a mean: *real takes H(0)/N. Line N/2 is a last line: *real
+   takes H(N/2)/N. Both keep *imaginary as it was lent. Every other line is a pair: *real takes (H(v) + H(N-v)) / 2N and
+   *imaginary (H(N-v) - H(v)) / 2N. Every quotient is exact, and none is minus zero. Answers which case the line is, or
+   a refusal: 1, 3 or 4. */
+uint64_t hartley_scaled(const uint8_t *spectrum, size_t spectrum_bytes, size_t line, double *real, double *imaginary);
 
 /* The check of a trace. Answers rate, P and the number of blocks, or a refusal: 10 to 15. */
 uint64_t hartley_check(const uint8_t *trace, size_t trace_bytes);
 
+/* The N samples of block k of a trace, counted from 0, in N lent cells. Answers what hartley_check answers, or a
+   refusal: 10 to 15, 16 or 2. */
+uint64_t hartley_fetch(const uint8_t *trace, size_t trace_bytes, size_t k, uint8_t *cells, size_t cells_bytes);
+
 /* What any answer says: the number of the refusal, or 0 where nothing is refused. */
 uint64_t hartley_number(uint64_t answer);
 
-/* What a refusal says besides: its place, a cell of the block or a byte of the trace. */
+/* What a refusal says besides: its place, a cell of the block, a byte of the trace, or the line or block asked for. An
+   answer has seven bytes for it: of the place of 4 and 16, which the host gave itself, the highest byte is left off
+   where it is not 0. Every other place is whole. */
 uint64_t hartley_place(uint64_t answer);
 
-/* What the answer to an accepted trace says: the rate in samples a second, P (a block has N = 2^P cells) and the number
-   of blocks. */
+/* What the answer to an accepted scaled line says: HARTLEY_MEAN, HARTLEY_LAST or HARTLEY_PAIR. */
+uint64_t hartley_case(uint64_t answer);
+
+/* What the answer to an accepted trace says, of a check or a fetch: the rate in samples a second, P (a block has N = 2^P
+   cells) and the number of blocks. */
 uint64_t hartley_rate(uint64_t answer);
 uint64_t hartley_p(uint64_t answer);
 uint64_t hartley_blocks(uint64_t answer);
