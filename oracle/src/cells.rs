@@ -1,8 +1,10 @@
 //! The old host's form: "each cell is eight bytes, two's complement, least byte first".
 
 use crate::blocks::{backward, forward, test_length};
-use crate::fourier::power;
+use crate::fourier::{parts, power};
 use crate::refusal::{refuse_if, Refusal, LENGTH, MISFIT};
+use crate::scaled::{scaled, Scaled};
+use crate::trace::{block, contents, test_block, Contents};
 
 /// "a count of bytes that is no multiple of eight is a refusal 1"
 fn cells_of(bytes: &[u8]) -> Result<Vec<i64>, Refusal> {
@@ -37,12 +39,42 @@ pub fn backward_bytes(lent: &mut [u8]) -> Result<(), Refusal> {
     Ok(())
 }
 
-/// Power on bytes; a count that is no multiple of eight is a refusal 1, "or 2 in an output".
+/// A count of bytes that is no multiple of eight is a refusal 1, "or 2 in an output"; else the count of cells.
+fn cells_lent(lent: &[u8]) -> Result<usize, Refusal> {
+    refuse_if(lent.len() % 8 != 0, MISFIT, 0)?;
+    Ok(lent.len() / 8)
+}
+
+/// Parts on bytes: the call "fills two lent lists, real and imaginary".
+pub fn parts_bytes(spectrum: &[u8], real: &mut [u8], imaginary: &mut [u8]) -> Result<(), Refusal> {
+    let cells = cells_of(spectrum)?;
+    test_length(cells.len())?;
+    let (real_part, imaginary_part) = parts(&cells, cells_lent(real)?, cells_lent(imaginary)?)?;
+    replace(real, &real_part);
+    replace(imaginary, &imaginary_part);
+    Ok(())
+}
+
+/// Power on bytes: "the call for the power fills one".
 pub fn power_bytes(spectrum: &[u8], lent: &mut [u8]) -> Result<(), Refusal> {
     let cells = cells_of(spectrum)?;
     test_length(cells.len())?;
-    refuse_if(lent.len() % 8 != 0, MISFIT, 0)?;
-    let doubled = power(&cells, lent.len() / 8)?;
+    let doubled = power(&cells, cells_lent(lent)?)?;
     replace(lent, &doubled);
     Ok(())
+}
+
+/// A scaled line of a spectrum on bytes; it has no lent output.
+pub fn scaled_bytes(spectrum: &[u8], line: u64) -> Result<Scaled, Refusal> {
+    scaled(&cells_of(spectrum)?, line)
+}
+
+/// A fetch into bytes: the trace's own tests, "then tests 16, then 2". It answers what the check does, and "also fills N
+/// lent cells".
+pub fn fetch_bytes(trace: &[u8], k: u64, lent: &mut [u8]) -> Result<Contents, Refusal> {
+    let held = contents(trace)?;
+    test_block(&held, k)?;
+    let samples = block(&held, k, cells_lent(lent)?)?;
+    replace(lent, samples);
+    Ok(held)
 }

@@ -9,7 +9,7 @@ fn test_lent(spectrum: &[i64], lent: usize) -> Result<(), Refusal> {
 }
 
 /// H(v) and H(N-v), "with H(N) read as H(0)".
-fn mirrored(spectrum: &[i64], v: usize) -> (i64, i64) {
+pub fn mirrored(spectrum: &[i64], v: usize) -> (i64, i64) {
     let n = spectrum.len();
     (spectrum[v], spectrum[(n - v) % n])
 }

@@ -8,12 +8,14 @@ mod cosines;
 mod fourier;
 mod listing;
 mod refusal;
+mod scaled;
 mod trace;
 
 pub use blocks::{backward, direct, forward, halves, E};
-pub use cells::{backward_bytes, forward_bytes, power_bytes};
+pub use cells::{backward_bytes, fetch_bytes, forward_bytes, parts_bytes, power_bytes, scaled_bytes};
 pub use cosines::{fine_cosine, table_cosine};
 pub use fourier::{parts, power};
 pub use listing::listing;
 pub use refusal::Refusal;
+pub use scaled::{scaled, Fraction, Scaled};
 pub use trace::{contents, fetch, Contents};

@@ -1,4 +1,4 @@
-//! Section "Refused input". Number 4 is not here: this program has no scaled lines.
+//! Section "Refused input".
 
 /// "A refusal is the number and place".
 #[derive(Debug, Clone, Copy, PartialEq, Eq)]
@@ -10,6 +10,7 @@ pub struct Refusal {
 pub const LENGTH: u64 = 1;
 pub const MISFIT: u64 = 2;
 pub const LOUD: u64 = 3;
+pub const LINE: u64 = 4;
 pub const LONG: u64 = 10;
 pub const CUT: u64 = 11;
 pub const KIND: u64 = 12;
@@ -20,8 +21,12 @@ pub const ABSENT: u64 = 16;
 
 /// "the first fault found decides": where the fault holds, the call ends with this refusal.
 pub fn refuse_if(fault: bool, number: u64, place: usize) -> Result<(), Refusal> {
+    refuse_asked_if(fault, number, place as u64)
+}
+
+/// The same where the place is "that line" or the block k that was asked for, which may be any number.
+pub fn refuse_asked_if(fault: bool, number: u64, place: u64) -> Result<(), Refusal> {
     if fault {
-        let place = place as u64;
         return Err(Refusal { number, place });
     }
     Ok(())

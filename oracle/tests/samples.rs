@@ -41,6 +41,17 @@ fn bytes_of(cells: &[i64]) -> Vec<u8> {
     cells.iter().flat_map(|cell| cell.to_le_bytes()).collect()
 }
 
+/// A whole number over another, as a scaled line has it.
+fn over(numerator: i64, denominator: i64) -> Fraction {
+    Fraction { numerator, denominator }
+}
+
+/// The case of a pair, its parts over 2N.
+fn pair(real: i64, imaginary: i64, denominator: i64) -> Result<Scaled, Refusal> {
+    let (real, imaginary) = (over(real, denominator), over(imaginary, denominator));
+    Ok(Scaled::Pair { real, imaginary })
+}
+
 /// Blocks of N = 2^P samples: the loudest ones, one loud sample alone, and freely mixed ones.
 fn blocks(p: u32) -> Vec<Vec<i64>> {
     let n = 1_usize << p;
@@ -67,6 +78,31 @@ fn table_cosines() {
     for j in 0..=256 {
         let entry = (fine_cosine(j) + (1 << 44)).div_euclid(1 << 45);
         assert_eq!(i128::from(table_cosine(j)), entry);
+    }
+}
+
+/// F at five places, found once more apart from this program, by Python's `math.isqrt`.
+#[test]
+fn fine_cosines() {
+    let rows: [(i64, i128); 5] = [
+        (1, 1_152_899_801_185_339_686),
+        (64, 1_065_160_580_698_383_124),
+        (128, 815_238_614_083_298_888),
+        (192, 441_203_958_630_471_860),
+        (255, 7_074_193_361_797_262),
+    ];
+    for (j, fine) in rows {
+        assert_eq!(fine_cosine(j), fine, "F({j})");
+    }
+}
+
+/// F(j)² + F(256 - j)² is never above 2^120, and at most 9/4 × 2^60 below it. Document 01 states no such distance: it is
+/// measured, and tells other roundings and other numbers of places apart.
+#[test]
+fn squares_of_cosine_and_sine_add_up() {
+    for j in 0..=256 {
+        let lacking = (1 << 120) - fine_cosine(j) * fine_cosine(j) - fine_cosine(256 - j) * fine_cosine(256 - j);
+        assert!(0 <= lacking && 4 * lacking <= 9 << 60, "at {j}");
     }
 }
 
@@ -189,6 +225,7 @@ fn lengths() {
         assert_eq!(backward(&vec![0; count]), refused(1, 0));
         assert_eq!(parts(&vec![0; count], 0, 0), refused(1, 0));
         assert_eq!(power(&vec![1 << 40; count], 0), refused(1, 0));
+        assert_eq!(scaled(&vec![1 << 40; count], 5_000), refused(1, 0));
     }
     assert_eq!(forward(&[0; 1024]), Ok(vec![0; 1024]));
     assert_eq!(backward(&[0; 1024]), Ok(vec![0; 1024]));
@@ -220,6 +257,55 @@ fn parts_and_power() {
     assert_eq!(parts(&spectrum, 3, 4), refused(2, 0));
     assert_eq!(power(&spectrum, 4), refused(2, 0));
     assert_eq!(power(&[1 << 40; 4], 4), refused(2, 0));
+}
+
+#[test]
+fn scaled_lines_of_the_worked_spectrum() {
+    let spectrum = [10, -4, -2, 0];
+    assert_eq!(scaled(&spectrum, 0), Ok(Scaled::Mean(over(10, 4)))); // 2.5
+    assert_eq!(scaled(&spectrum, 1), pair(-4, 4, 8)); // -0.5 and 0.5
+    assert_eq!(scaled(&spectrum, 2), Ok(Scaled::Last(over(-2, 4)))); // -0.5
+    assert_eq!(scaled(&spectrum, 3), refused(4, 3));
+}
+
+#[test]
+fn scaled_lines_of_other_lengths() {
+    assert_eq!(scaled(&[-2, 8], 0), Ok(Scaled::Mean(over(-2, 2)))); // -1
+    assert_eq!(scaled(&[-2, 8], 1), Ok(Scaled::Last(over(8, 2)))); // 4
+    assert_eq!(scaled(&[-2, 8], 2), refused(4, 2));
+
+    let eight = [36, -14, -8, -6, -4, -2, 0, 6];
+    assert_eq!(scaled(&eight, 0), Ok(Scaled::Mean(over(36, 8)))); // 4.5
+    assert_eq!(scaled(&eight, 1), pair(-8, 20, 16)); // -0.5 and 1.25
+    assert_eq!(scaled(&eight, 2), pair(-8, 8, 16)); // -0.5 and 0.5
+    assert_eq!(scaled(&eight, 3), pair(-8, 4, 16)); // -0.5 and 0.25
+    assert_eq!(scaled(&eight, 4), Ok(Scaled::Last(over(-4, 8)))); // -0.5
+
+    // H(v) = v: the real part is 16 / 32 of every pair, the imaginary part (16 - 2v) / 32
+    let rising: Vec<i64> = (0..16).collect();
+    assert_eq!(scaled(&rising, 0), Ok(Scaled::Mean(over(0, 16))));
+    assert_eq!(scaled(&rising, 1), pair(16, 14, 32));
+    assert_eq!(scaled(&rising, 4), pair(16, 8, 32));
+    assert_eq!(scaled(&rising, 7), pair(16, 2, 32));
+    assert_eq!(scaled(&rising, 8), Ok(Scaled::Last(over(8, 16))));
+}
+
+#[test]
+fn refused_lines() {
+    let most = u64::MAX;
+    for (count, line) in [(2, 2), (4, 4), (8, 5), (16, 15), (1024, 513), (1024, 1024), (8, 1 << 32), (8, most)] {
+        assert_eq!(scaled(&vec![7; count], line), refused(4, line));
+    }
+    assert_eq!(scaled(&[7; 1024], 512), Ok(Scaled::Last(over(7, 1024))));
+    let bound = 1 << 28;
+    assert_eq!(scaled(&[bound, -bound, bound, bound], 1), pair(0, 2 * bound, 8));
+    assert_eq!(scaled(&[-bound, -bound, 0, -bound], 1), pair(-2 * bound, 0, 8));
+    // 3 before 4, wherever the loud cell stands, and 1 before both
+    for line in [0, 1, 2, 3, most] {
+        assert_eq!(scaled(&[bound + 1, 0, 0, 0], line), refused(3, 0));
+        assert_eq!(scaled(&[0, 0, 0, -bound - 1], line), refused(3, 3));
+        assert_eq!(scaled(&[0, bound + 1, i64::MIN], line), refused(1, 0));
+    }
 }
 
 #[test]
@@ -268,6 +354,32 @@ fn fetches() {
     assert_eq!(fetch(&SAMPLE_TRACE[0..31], 1, 5), refused(11, 26));
 }
 
+/// Three blocks of two, with notes between them, before them and after them.
+fn three_blocks() -> Vec<u8> {
+    let blocks = [[1, 0, 2, 0], [0, 0x80, 0xFF, 0x7F], [0xFF, 0xFF, 5, 0]].map(|payload| record(2, &payload));
+    let note = record(3, &[2, 0, 0, 0]);
+    let [first, second, third] = blocks;
+    [record(1, &head(9, 1)), note.clone(), first, second, record(3, &[]), note.clone(), third, note, record(4, &[])]
+        .concat()
+}
+
+#[test]
+fn fetches_of_several_blocks() {
+    let trace = three_blocks();
+    assert_eq!(fetch(&trace, 0, 2), Ok(vec![1, 2]));
+    assert_eq!(fetch(&trace, 1, 2), Ok(vec![-32_768, 32_767]));
+    assert_eq!(fetch(&trace, 2, 2), Ok(vec![-1, 5]));
+    for k in [3, 4, 255, 256, 65_536, 1 << 32, (1 << 32) + 1, 1 << 56, u64::MAX] {
+        assert_eq!(fetch(&trace, k, 2), refused(16, k));
+        assert_eq!(fetch(&trace, k, 3), refused(16, k)); // 16 before 2
+    }
+    for lent in [0, 1, 3, 4, 1024] {
+        assert_eq!(fetch(&trace, 2, lent), refused(2, 0));
+    }
+    let cut = &trace[..trace.len() - 1];
+    assert_eq!(fetch(cut, 9, 3), refused(11, cut.len() as u64 - 5)); // the trace's own before 16 and 2
+}
+
 #[test]
 fn listings() {
     assert_eq!(listing(&SAMPLE_TRACE), SAMPLE_LISTING.as_bytes());
@@ -297,6 +409,10 @@ fn bytes_of_the_old_host() {
     let mut output = vec![9; 24];
     assert_eq!(power_bytes(&lent, &mut output), Ok(()));
     assert_eq!(output, bytes_of(&[200, 16, 8]));
+    let mut other = vec![8; 24];
+    assert_eq!(parts_bytes(&lent, &mut output, &mut other), Ok(()));
+    assert_eq!((output, other), (bytes_of(&[20, -4, -4]), bytes_of(&[0, 4, 0])));
+    assert_eq!(scaled_bytes(&lent, 1), pair(-4, 4, 8));
     assert_eq!(backward_bytes(&mut lent), Ok(()));
     assert_eq!(lent, bytes_of(&[1, 2, 3, 4]));
 }
@@ -318,4 +434,44 @@ fn refused_bytes_keep_their_contents() {
     assert_eq!(power_bytes(&loud, &mut output[0..8]), refused(2, 0));
     assert_eq!(power_bytes(&loud, &mut output[0..16]), refused(3, 1));
     assert_eq!(output, [9; 17]);
+}
+
+#[test]
+fn refused_parts_and_lines_of_bytes() {
+    let (loud, quiet) = (bytes_of(&[0, 1 << 40]), bytes_of(&[1, 2]));
+    let mut real = vec![9; 17];
+    let mut imaginary = vec![8; 17];
+    assert_eq!(parts_bytes(&loud[0..15], &mut real, &mut imaginary), refused(1, 0));
+    assert_eq!(parts_bytes(&loud[0..8], &mut real, &mut imaginary), refused(1, 0));
+    for (first, second) in [(17, 16), (16, 17), (8, 16), (16, 8), (17, 17), (0, 0)] {
+        assert_eq!(parts_bytes(&loud, &mut real[..first], &mut imaginary[..second]), refused(2, 0));
+    }
+    assert_eq!(parts_bytes(&loud, &mut real[..16], &mut imaginary[..16]), refused(3, 1));
+    assert_eq!((real, imaginary), (vec![9; 17], vec![8; 17]));
+    for line in [0, 1, 2, u64::MAX] {
+        assert_eq!(scaled_bytes(&loud[0..15], line), refused(1, 0));
+        assert_eq!(scaled_bytes(&loud[0..8], line), refused(1, 0));
+        assert_eq!(scaled_bytes(&loud, line), refused(3, 1));
+    }
+    assert_eq!(scaled_bytes(&quiet, 2), refused(4, 2));
+    assert_eq!(scaled_bytes(&quiet, 1), Ok(Scaled::Last(over(2, 2))));
+}
+
+#[test]
+fn fetches_into_bytes() {
+    let trace = three_blocks();
+    let held = contents(&trace).unwrap();
+    let mut lent = vec![9; 17];
+    for count in [0, 8, 15, 17] {
+        assert_eq!(fetch_bytes(&trace, 2, &mut lent[..count]), refused(2, 0));
+        assert_eq!(fetch_bytes(&trace, 3, &mut lent[..count]), refused(16, 3));
+        assert_eq!(fetch_bytes(&trace[1..], 3, &mut lent[..count]), refused(12, 0));
+    }
+    assert_eq!(fetch_bytes(&trace, u64::MAX, &mut lent[..16]), refused(16, u64::MAX));
+    assert_eq!(lent, [9; 17]);
+    for (k, samples) in [(0, [1, 2]), (1, [-32_768, 32_767]), (2, [-1, 5])] {
+        assert_eq!(fetch_bytes(&trace, k, &mut lent[..16]).as_ref(), Ok(&held));
+        assert_eq!(lent[..16], bytes_of(&samples));
+    }
+    assert_eq!((held.rate, held.p, held.blocks.len(), lent[16]), (9, 1, 3, 9));
 }
