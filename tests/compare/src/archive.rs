@@ -5,16 +5,36 @@ use crate::random::Random;
 extern "C" {
     fn hartley_forward(cells: *mut u8, cells_bytes: usize) -> u64;
     fn hartley_backward(cells: *mut u8, cells_bytes: usize) -> u64;
+    fn hartley_parts(
+        spectrum: *const u8,
+        spectrum_bytes: usize,
+        real: *mut u8,
+        real_bytes: usize,
+        imaginary: *mut u8,
+        imaginary_bytes: usize,
+    ) -> u64;
     fn hartley_power(spectrum: *const u8, spectrum_bytes: usize, powers: *mut u8, powers_bytes: usize) -> u64;
+    fn hartley_scaled(
+        spectrum: *const u8,
+        spectrum_bytes: usize,
+        line: usize,
+        real: *mut f64,
+        imaginary: *mut f64,
+    ) -> u64;
     fn hartley_check(trace: *const u8, trace_bytes: usize) -> u64;
+    fn hartley_fetch(trace: *const u8, trace_bytes: usize, k: usize, cells: *mut u8, cells_bytes: usize) -> u64;
     fn hartley_number(answer: u64) -> u64;
     fn hartley_place(answer: u64) -> u64;
+    fn hartley_case(answer: u64) -> u64;
     fn hartley_rate(answer: u64) -> u64;
     fn hartley_p(answer: u64) -> u64;
     fn hartley_blocks(answer: u64) -> u64;
 }
 
-/// Bytes to lend to one call, inside a larger buffer of random bytes and at a random alignment.
+/// The bytes on either side of what is lent.
+const GUARD: usize = 64;
+
+/// Bytes to lend to one call, inside a larger buffer of random bytes.
 pub struct Lent {
     buffer: Vec<u8>,
     before: Vec<u8>, // the buffer as it was before the call
@@ -23,16 +43,30 @@ pub struct Lent {
 }
 
 impl Lent {
+    /// At a random alignment.
     pub fn new(bytes: &[u8], random: &mut Random) -> Lent {
-        let start = 64 + random.below(16);
+        let start = GUARD + random.below(16);
         let mut buffer = random.bytes(start);
         buffer.extend_from_slice(bytes);
-        buffer.extend(random.bytes(64));
+        buffer.extend(random.bytes(GUARD));
         Lent { before: buffer.clone(), buffer, start, count: bytes.len() }
+    }
+
+    /// One double, at an address that is a multiple of eight, as a host in C lends it.
+    pub fn double(bits: u64, random: &mut Random) -> Lent {
+        let mut buffer = random.bytes(GUARD + 24 + GUARD);
+        let start = GUARD + buffer[GUARD..].as_ptr().align_offset(8) + 8 * random.below(2);
+        buffer[start..start + 8].copy_from_slice(&bits.to_le_bytes());
+        Lent { before: buffer.clone(), buffer, start, count: 8 }
     }
 
     pub fn bytes(&self) -> &[u8] {
         &self.buffer[self.start..self.start + self.count]
+    }
+
+    /// The bits of a double.
+    pub fn bits(&self) -> u64 {
+        u64::from_le_bytes(self.bytes().try_into().expect("eight bytes"))
     }
 
     /// The first wrong byte: its place, counted from the first lent one, what it is and what it should be. The lent
@@ -60,17 +94,36 @@ pub fn backward(cells: &mut Lent) -> u64 {
     unsafe { hartley_backward(cells.pointer(), cells.count) }
 }
 
-/// The spectrum is lent as if it could be written, so that a write to it would be seen.
+/// The spectrum is lent as if it could be written, so that a write to it would be seen; so are those of the next two.
+pub fn parts(spectrum: &mut Lent, real: &mut Lent, imaginary: &mut Lent) -> u64 {
+    let (given, bytes) = (spectrum.pointer(), spectrum.count);
+    unsafe { hartley_parts(given, bytes, real.pointer(), real.count, imaginary.pointer(), imaginary.count) }
+}
+
 pub fn power(spectrum: &mut Lent, powers: &mut Lent) -> u64 {
     unsafe { hartley_power(spectrum.pointer(), spectrum.count, powers.pointer(), powers.count) }
 }
 
-/// The trace, too, is lent as if it could be written.
+pub fn scaled(spectrum: &mut Lent, line: u64, [real, imaginary]: &mut [Lent; 2]) -> u64 {
+    let (real, imaginary) = (real.pointer().cast(), imaginary.pointer().cast());
+    unsafe { hartley_scaled(spectrum.pointer(), spectrum.count, line as usize, real, imaginary) }
+}
+
+/// The trace, too, is lent as if it could be written; so is that of the next.
 pub fn check(trace: &mut Lent) -> u64 {
     unsafe { hartley_check(trace.pointer(), trace.count) }
 }
 
-/// What the unpacking calls say of an answer: number, place, rate, P and the number of blocks.
-pub fn unpacked(a: u64) -> [u64; 5] {
-    unsafe { [hartley_number(a), hartley_place(a), hartley_rate(a), hartley_p(a), hartley_blocks(a)] }
+pub fn fetch(trace: &mut Lent, k: u64, cells: &mut Lent) -> u64 {
+    unsafe { hartley_fetch(trace.pointer(), trace.count, k as usize, cells.pointer(), cells.count) }
+}
+
+/// What the unpacking calls say of any answer: number, place and case.
+pub fn unpacked(a: u64) -> [u64; 3] {
+    unsafe { [hartley_number(a), hartley_place(a), hartley_case(a)] }
+}
+
+/// What they say of the answer to an accepted trace: rate, P and the number of blocks.
+pub fn unpacked_trace(a: u64) -> [u64; 3] {
+    unsafe { [hartley_rate(a), hartley_p(a), hartley_blocks(a)] }
 }

@@ -1,10 +1,13 @@
-//! Runs one input twice, first by the archive or the listing program, then by the second program, and ends at the first
-//! difference.
+//! Runs one input twice, first by the archive or the listing program, then by the second program, and ends at the
+//! first difference.
 
 use crate::archive::{self, Lent};
+use crate::call::Call;
 use crate::inputs::{cells_of, negated};
 use crate::random::Random;
-use crate::tally::{Call, Tally};
+use crate::report::{packed, packed_trace, Run};
+use crate::tally::Tally;
+use oracle::{Contents, Refusal, Scaled};
 use std::io::Write;
 use std::process::{exit, Command, Stdio};
 use std::thread;
@@ -13,27 +16,33 @@ use std::time::Duration;
 pub struct Comparison {
     pub random: Random,
     pub tally: Tally,
-    seed: u64,
+    pub seed: u64,
     list: String,
 }
 
-/// What has been run and answered, for the report of a difference.
-struct Run<'a> {
-    call: Call,
-    sort: &'static str,
-    input: &'a [u8],
-    output: usize, // bytes
-    answers: [String; 2],
+/// An answer, and what then stands in the bytes lent for the result.
+type Left = (u64, Vec<u8>);
+
+/// A call on a block by the archive.
+fn first_block(call: Call, cells: &mut Lent, outputs: &mut [Lent]) -> u64 {
+    match (call, outputs) {
+        (Call::Forward, []) => archive::forward(cells),
+        (Call::Backward, []) => archive::backward(cells),
+        (Call::Parts, [real, imaginary]) => archive::parts(cells, real, imaginary),
+        (Call::Power, [powers]) => archive::power(cells, powers),
+        _ => panic!("{call:?} with other outputs"),
+    }
 }
 
-/// The answer that a refusal makes.
-pub fn refused(number: u64, place: u64) -> u64 {
-    number + 256 * place
-}
-
-/// The answer to an accepted trace.
-pub fn accepted(rate: u64, p: u32, blocks: usize) -> u64 {
-    256 * u64::from(p) + 65_536 * blocks as u64 + (rate << 32)
+/// The same by the second program.
+fn second_block(call: Call, cells: &mut [u8], outputs: &mut [Vec<u8>]) -> Result<(), Refusal> {
+    match (call, outputs) {
+        (Call::Forward, []) => oracle::forward_bytes(cells),
+        (Call::Backward, []) => oracle::backward_bytes(cells),
+        (Call::Parts, [real, imaginary]) => oracle::parts_bytes(cells, real, imaginary),
+        (Call::Power, [powers]) => oracle::power_bytes(cells, powers),
+        _ => panic!("{call:?} with other outputs"),
+    }
 }
 
 impl Comparison {
@@ -41,55 +50,44 @@ impl Comparison {
         Comparison { random: Random::new(seed), tally: Tally::default(), seed, list }
     }
 
-    /// Forward, backward or power of a block; only power uses the output. Gives the answer, and what then stands in the
-    /// bytes lent for the result.
-    fn block(&mut self, call: Call, sort: &'static str, cells: &[u8], output: &[u8]) -> (u64, Vec<u8>) {
+    /// A call on a block, with as many outputs as it has; what is left of two stands one after the other.
+    fn block(&mut self, call: Call, sort: &'static str, cells: &[u8], outputs: &[Vec<u8>]) -> Left {
         let mut lent = Lent::new(cells, &mut self.random);
-        let mut lent_output = Lent::new(output, &mut self.random);
-        let answer = match call {
-            Call::Forward => archive::forward(&mut lent),
-            Call::Backward => archive::backward(&mut lent),
-            _ => archive::power(&mut lent, &mut lent_output),
-        };
-        let (mut second_cells, mut second_output) = (cells.to_vec(), output.to_vec());
-        let second = match call {
-            Call::Forward => oracle::forward_bytes(&mut second_cells),
-            Call::Backward => oracle::backward_bytes(&mut second_cells),
-            _ => oracle::power_bytes(cells, &mut second_output),
-        };
-        let second_answer = match second {
-            Ok(()) => 0,
-            Err(refusal) => refused(refusal.number, refusal.place),
-        };
-        let answers = [answer.to_string(), second_answer.to_string()];
-        let run = Run { call, sort, input: cells, output: output.len(), answers };
-        let [number, place, ..] = archive::unpacked(answer);
-        self.same(&run, "answer", answer, second_answer);
-        self.same(&run, "hartley_number", number, second_answer % 256);
-        if let Err(refusal) = second {
-            self.same(&run, "hartley_place", place, refusal.place);
+        let mut lent_outputs: Vec<Lent> = outputs.iter().map(|bytes| Lent::new(bytes, &mut self.random)).collect();
+        let answer = first_block(call, &mut lent, &mut lent_outputs);
+        let (mut second_cells, mut second_outputs) = (cells.to_vec(), outputs.to_vec());
+        let second = second_block(call, &mut second_cells, &mut second_outputs);
+        let second_answer = packed(second.map(|()| 0));
+        let mut run = Run::new(call, sort, cells, [answer, second_answer]);
+        run.output = outputs.iter().map(Vec::len).sum();
+        self.same_answer(&run, answer, second_answer);
+        if second.is_err() {
             self.same_bytes(&run, "block kept by the second program", cells, &second_cells);
-            self.same_bytes(&run, "output kept by the second program", output, &second_output);
+            self.same_bytes(&run, "outputs kept by the second program", &outputs.concat(), &second_outputs.concat());
         }
         self.same_lent(&run, "block", &lent, &second_cells);
-        self.same_lent(&run, "output", &lent_output, &second_output);
-        let p = (cells.len() / 8).max(1).ilog2();
-        self.tally.count(call, sort, number, p);
-        if call == Call::Forward && number == 0 {
-            self.measure(p as usize, &cells_of(cells), &cells_of(lent.bytes()));
+        for (lent_output, second_output) in lent_outputs.iter().zip(&second_outputs) {
+            self.same_lent(&run, "output", lent_output, second_output);
         }
-        let result = if call == Call::Power { lent_output } else { lent };
-        (answer, result.bytes().to_vec())
+        let given = cells_of(cells);
+        let p = given.len().max(1).ilog2();
+        self.tally.count(call, sort, answer % 256, p);
+        if let Err(refusal) = second {
+            self.tally.count_faults(call, refusal.number, &given, None);
+        } else if call == Call::Forward {
+            self.measure(p as usize, &given, &cells_of(lent.bytes()));
+        }
+        let result = if outputs.is_empty() { vec![lent] } else { lent_outputs };
+        (answer, result.iter().flat_map(|lent| lent.bytes().to_vec()).collect())
     }
 
     /// A block as above and its negative, by forward or backward. Where both are taken, what is left of the one is the
-    /// negative of what is left of the other; and backward answers both alike. Gives the block's answer and result.
-    fn both_signs(&mut self, call: Call, sort: &'static str, cells: &[u8]) -> (u64, Vec<u8>) {
+    /// negative of what is left of the other; and backward answers both alike. Gives what is left of the block itself.
+    fn both_signs(&mut self, call: Call, sort: &'static str, cells: &[u8]) -> Left {
         let (answer, left) = self.block(call, sort, cells, &[]);
         let negative = negated(cells);
         let (its_answer, its_left) = self.block(call, sort, &negative, &[]);
-        let answers = [answer.to_string(), its_answer.to_string()];
-        let run = Run { call, sort, input: cells, output: 0, answers };
+        let run = Run::new(call, sort, cells, [answer, its_answer]);
         let tellable = !cells_of(cells).contains(&i64::MIN); // whose negative is itself here
         if call == Call::Backward && tellable {
             self.same(&run, "answer for the negative", its_answer, answer);
@@ -104,10 +102,58 @@ impl Comparison {
     }
 
     /// One input of a call on a block; forward and backward take it with its negative.
-    pub fn signed_block(&mut self, call: Call, sort: &'static str, cells: &[u8], output: &[u8]) -> (u64, Vec<u8>) {
+    pub fn signed_block(&mut self, call: Call, sort: &'static str, cells: &[u8], outputs: &[Vec<u8>]) -> Left {
         match call {
-            Call::Power => self.block(call, sort, cells, output),
-            _ => self.both_signs(call, sort, cells),
+            Call::Forward | Call::Backward => self.both_signs(call, sort, cells),
+            _ => self.block(call, sort, cells, outputs),
+        }
+    }
+
+    /// Random bytes for each output of a call on a block.
+    pub fn outputs(&mut self, call: Call, bytes: usize) -> Vec<Vec<u8>> {
+        (0..call.outputs()).map(|_| self.random.bytes(bytes)).collect()
+    }
+
+    /// A scaled line. Gives the answer, and the bits that then stand in the two lent doubles.
+    pub fn scaled(&mut self, sort: &'static str, cells: &[u8], line: u64) -> (u64, [u64; 2]) {
+        let mut lent = Lent::new(cells, &mut self.random);
+        let kept = [self.any_double(), self.any_double()];
+        let mut doubles = kept.map(|bits| Lent::double(bits, &mut self.random));
+        let answer = archive::scaled(&mut lent, line, &mut doubles);
+        let second = oracle::scaled_bytes(cells, line);
+        let (case, fractions) = match second {
+            Ok(Scaled::Mean(mean)) => (1, [Some(mean), None]),
+            Ok(Scaled::Last(last)) => (2, [Some(last), None]),
+            Ok(Scaled::Pair { real, imaginary }) => (3, [Some(real), Some(imaginary)]),
+            Err(_) => (0, [None, None]),
+        };
+        let second_answer = packed(second.map(|_| 256 * case));
+        let mut run = Run::new(Call::Scaled, sort, cells, [answer, second_answer]);
+        run.asked = Some(line);
+        self.same_answer(&run, answer, second_answer);
+        self.same(&run, "hartley_case", archive::unpacked(answer)[2], second_answer / 256 % 256);
+        self.same_lent(&run, "spectrum", &lent, cells);
+        for (i, what) in ["real", "imaginary"].iter().enumerate() {
+            self.same_double(&run, what, &doubles[i], kept[i], fractions[i]);
+        }
+        self.count_scaled(sort, cells, line, second);
+        (answer, doubles.map(|double| double.bits()))
+    }
+
+    /// What a double holds before the call: any bits, or such as a copy could change, or zeros.
+    fn any_double(&mut self) -> u64 {
+        let any = self.random.next();
+        let signalling = 0x7FF0_0000_0000_0001; // the least that is no number
+        self.random.pick(&[any, any, signalling, f64::INFINITY.to_bits(), 1 << 63, 0])
+    }
+
+    fn count_scaled(&mut self, sort: &'static str, cells: &[u8], line: u64, second: Result<Scaled, Refusal>) {
+        let spectrum = cells_of(cells);
+        let p = spectrum.len().max(1).ilog2();
+        self.tally.count(Call::Scaled, sort, second.map_or_else(|refusal| refusal.number, |_| 0), p);
+        match second {
+            Ok(scaled) => self.tally.count_line(p as usize, scaled, &spectrum),
+            Err(refusal) => self.tally.count_faults(Call::Scaled, refusal.number, &spectrum, Some(line)),
         }
     }
 
@@ -116,29 +162,43 @@ impl Comparison {
         let mut lent = Lent::new(trace, &mut self.random);
         let answer = archive::check(&mut lent);
         let second = oracle::contents(trace);
-        let second_answer = match &second {
-            Ok(contents) => accepted(contents.rate, contents.p, contents.blocks.len()),
-            Err(refusal) => refused(refusal.number, refusal.place),
-        };
-        let answers = [answer.to_string(), second_answer.to_string()];
-        let run = Run { call: Call::Check, sort, input: trace, output: 0, answers };
-        let [number, place, rate, p, blocks] = archive::unpacked(answer);
+        let run = Run::new(Call::Check, sort, trace, [answer, packed_trace(&second)]);
         self.same_lent(&run, "trace", &lent, trace);
-        self.same(&run, "answer", answer, second_answer);
-        self.same(&run, "hartley_number", number, second_answer % 256);
-        match second {
-            Ok(contents) => {
-                self.same(&run, "hartley_rate", rate, contents.rate);
-                self.same(&run, "hartley_p", p, contents.p.into());
-                self.same(&run, "hartley_blocks", blocks, contents.blocks.len() as u64);
-                self.tally.count(Call::Check, sort, 0, contents.p);
-            }
-            Err(refusal) => {
-                self.same(&run, "hartley_place", place, refusal.place);
-                self.tally.count(Call::Check, sort, refusal.number, 0);
-            }
-        }
+        self.same_trace(&run, answer, &second);
+        self.count_trace(Call::Check, sort, &second, trace);
         answer
+    }
+
+    /// The fetch of block k.
+    pub fn fetch(&mut self, sort: &'static str, trace: &[u8], k: u64, cells: &[u8]) -> Left {
+        let mut lent = Lent::new(trace, &mut self.random);
+        let mut lent_cells = Lent::new(cells, &mut self.random);
+        let answer = archive::fetch(&mut lent, k, &mut lent_cells);
+        let mut second_cells = cells.to_vec();
+        let second = oracle::fetch_bytes(trace, k, &mut second_cells);
+        let mut run = Run::new(Call::Fetch, sort, trace, [answer, packed_trace(&second)]);
+        (run.asked, run.output) = (Some(k), cells.len());
+        self.same_trace(&run, answer, &second);
+        if second.is_err() {
+            self.same_bytes(&run, "cells kept by the second program", cells, &second_cells);
+        }
+        self.same_lent(&run, "trace", &lent, trace);
+        self.same_lent(&run, "cells", &lent_cells, &second_cells);
+        self.count_trace(Call::Fetch, sort, &second, trace);
+        if let Ok(contents) = &second {
+            self.tally.count_fetched(contents.p as usize, k);
+        }
+        if second.is_err_and(|refusal| refusal.number == 16) {
+            self.tally.count_together(Call::Fetch, [16, 2], cells.len() != 8 << trace[10]);
+        }
+        (answer, lent_cells.bytes().to_vec())
+    }
+
+    /// Counts a trace, with its P where the trace itself is right.
+    fn count_trace(&mut self, call: Call, sort: &'static str, second: &Result<Contents, Refusal>, trace: &[u8]) {
+        let number = second.as_ref().map_or_else(|refusal| refusal.number, |_| 0);
+        let p = if [0, 2, 16].contains(&number) { trace[10].into() } else { 0 };
+        self.tally.count(call, sort, number, p);
     }
 
     /// The listing of a trace. Gives what is printed.
@@ -159,15 +219,11 @@ impl Comparison {
         let printed = process.wait_with_output().expect("the listing program ends");
         sender.join().expect("the trace is sent");
         let second = oracle::listing(trace);
-        let answers = [first_line(&printed.stdout), first_line(&second)];
-        let run = Run { call: Call::List, sort, input: trace, output: 0, answers };
+        let run = Run::new(Call::List, sort, trace, [first_line(&printed.stdout), first_line(&second)]);
         self.same_bytes(&run, "listing", &printed.stdout, &second);
         self.same_bytes(&run, "error output", &printed.stderr, &[]);
         self.same(&run, "end by a signal", printed.status.code().is_none().into(), 0);
-        match oracle::contents(trace) {
-            Ok(contents) => self.tally.count(Call::List, "traces as above", 0, contents.p),
-            Err(refusal) => self.tally.count(Call::List, "traces as above", refusal.number, 0),
-        }
+        self.count_trace(Call::List, "traces as above", &oracle::contents(trace), trace);
         printed.stdout
     }
 
@@ -184,37 +240,6 @@ impl Comparison {
             }
         }
         self.tally.measured[p] += 1;
-    }
-
-    fn same(&self, run: &Run, what: &str, first: u64, second: u64) {
-        if first != second {
-            self.differ(run, &format!("{what}: {first}, second program {second}"));
-        }
-    }
-
-    fn same_lent(&self, run: &Run, what: &str, lent: &Lent, second: &[u8]) {
-        if let Some((at, first, second)) = lent.first_wrong(second) {
-            self.differ(run, &format!("{what}, lent byte {at}: {first:02X}, should be {second:02X}"));
-        }
-    }
-
-    fn same_bytes(&self, run: &Run, what: &str, first: &[u8], second: &[u8]) {
-        if first != second {
-            let at = first.iter().zip(second).take_while(|(a, b)| a == b).count();
-            let (first, second) = (first.get(at), second.get(at));
-            self.differ(run, &format!("{what}, byte {at}: {first:02X?}, second program {second:02X?}"));
-        }
-    }
-
-    fn differ(&self, run: &Run, difference: &str) -> ! {
-        let [first, second] = &run.answers;
-        println!("comparison: a difference at seed {}, input {}", self.seed, self.tally.inputs);
-        println!("  call: {:?}, {}", run.call, run.sort);
-        println!("  given: {} bytes, and {} of output", run.input.len(), run.output);
-        println!("  first bytes given: {:02X?}", &run.input[..run.input.len().min(64)]);
-        println!("  answer: {first}, second program {second}");
-        println!("  {difference}");
-        exit(1);
     }
 }
 

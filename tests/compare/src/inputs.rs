@@ -1,13 +1,10 @@
 //! Blocks of samples and spectra, within the limits and outside them.
 
+use crate::call::LINES;
 use crate::random::Random;
 
 /// The permitted lengths, for P from 1 to 10.
 pub const LENGTHS: [usize; 10] = [2, 4, 8, 16, 32, 64, 128, 256, 512, 1024];
-
-/// The least and the largest sample, and the least and the largest line of a spectrum.
-pub const SAMPLES: (i64, i64) = (-32_768, 32_767);
-pub const LINES: (i64, i64) = (-(1 << 28), 1 << 28);
 
 /// The shapes of a block. Those that stand here twice come twice as often.
 pub const SHAPES: [&str; 15] = [
@@ -88,9 +85,22 @@ pub fn make_loud(cells: &mut [i64], (low, high): (i64, i64), random: &mut Random
     }
 }
 
-/// The bytes of a block and an output, with and without each fault: wrong length, bytes left over, loud cells, misfit.
-pub fn several_faults(limits: (i64, i64), random: &mut Random) -> (Vec<u8>, Vec<u8>) {
-    let n = random.pick(&LENGTHS);
+/// A spectrum of n cells: the first and the middle one as given, the others in pairs that mirror each other, which
+/// are in turn alike below zero, alike above it, of either sign, and both zero; so that most parts are zero.
+pub fn mirrored(n: usize, [first, middle]: [i64; 2], turn: usize, random: &mut Random) -> Vec<i64> {
+    let mut spectrum = vec![0; n];
+    (spectrum[0], spectrum[n / 2]) = (first, middle);
+    for v in 1..n / 2 {
+        let any = random.between(1, LINES.1);
+        let size = random.pick(&[1, LINES.1, any]);
+        let signs = [[-1, -1], [1, -1], [1, 1], [-1, 1], [0, 0]][(v + turn) % 5];
+        [spectrum[v], spectrum[n - v]] = signs.map(|sign| sign * size);
+    }
+    spectrum
+}
+
+/// The bytes of a block for n cells, with and without each fault: wrong length, bytes left over, loud cells.
+pub fn several_faults(n: usize, limits: (i64, i64), random: &mut Random) -> Vec<u8> {
     let any = random.below(1100);
     let count = random.pick(&[n, n, n, any]);
     let mut cells = shaped("full range", count, limits, random);
@@ -102,10 +112,41 @@ pub fn several_faults(limits: (i64, i64), random: &mut Random) -> (Vec<u8>, Vec<
         let left_over = random.below(8);
         bytes.extend(random.bytes(left_over));
     }
+    bytes
+}
+
+/// An output for a block of n cells, with and without a misfit.
+pub fn any_output(n: usize, random: &mut Random) -> Vec<u8> {
     let fit = 8 * (n / 2 + 1);
     let near = fit + 9 - random.below(19);
-    let output = random.pick(&[fit, fit, near, 8 * any]);
-    (bytes, random.bytes(output))
+    let any = random.below(1100);
+    let count = random.pick(&[fit, fit, near, 8 * any]);
+    random.bytes(count)
+}
+
+/// A line of a block of n cells.
+pub fn any_line(n: usize, random: &mut Random) -> u64 {
+    let half = n as u64 / 2;
+    let any = random.below(n / 2 + 1) as u64;
+    random.pick(&[0, half, any, any])
+}
+
+/// Lines above N/2: the next ones, those of longer blocks, and such as look like a line where a part of the number is
+/// left off.
+pub fn lines_above(n: usize, random: &mut Random) -> Vec<u64> {
+    let half = n as u64 / 2;
+    let v = random.below(n / 2 + 1) as u64;
+    let near = [half + 1, half + 2, 2 * half, 2 * half + 1, 2 * half + v, 4 * half, 513, 1024, 1025];
+    let cut = [8, 16, 31, 32, 48, 53, 56, 60, 61, 62, 63].map(|digits| (1 << digits) + v);
+    let whole = [1 << 32, (1 << 56) - 1, 1 << 56, (1 << 63) - 1, 1 << 63, u64::MAX - 1, u64::MAX, u64::MAX - v];
+    let mut lines = [&near[..], &cut, &whole, &[random.next()]].concat();
+    lines.retain(|&line| line > half);
+    lines
+}
+
+pub fn any_line_above(n: usize, random: &mut Random) -> u64 {
+    let lines = lines_above(n, random);
+    random.pick(&lines)
 }
 
 /// Cells as bytes, least byte first.

@@ -2,22 +2,26 @@
 //! damaged inputs. Use: compare --list PATH [--long]
 
 mod archive;
+mod call;
 mod compare;
+mod double;
+mod fetches;
 mod inputs;
+mod lines;
 mod random;
+mod report;
 mod tally;
 mod traces;
 mod worked;
 
+use call::{Call, LINES, ON_A_BLOCK, SAMPLES};
 use compare::Comparison;
-use inputs::{bytes_of, make_loud, several_faults, shaped};
-use inputs::{LENGTHS, LINES, SAMPLES, SHAPES};
+use inputs::{any_line, any_line_above, any_output, bytes_of, make_loud, several_faults, shaped, LENGTHS, SHAPES};
 use std::process::exit;
-use tally::Call;
 use traces::{DAMAGES, LONGEST};
 
-// One round: blocks of each P from 1 to 10, blocks with several faults for each of three calls, and traces, each with
-// every damage. One trace in LISTED is listed as well.
+// One round: blocks of each P from 1 to 10, blocks with several faults for each of the calls on a block, and traces,
+// each with every damage. One trace in LISTED is listed as well.
 const BLOCKS: [usize; 10] = [1300, 1300, 1300, 1300, 1300, 1300, 650, 650, 390, 390];
 const SEVERAL: usize = 10_000;
 const TRACES: usize = 1500;
@@ -36,29 +40,30 @@ fn main() {
     };
     let mut c = Comparison::new(seed, list.to_string());
     worked::samples(&mut c);
+    let worked = std::mem::take(&mut c.tally).inputs; // the others are to be complete without them
     small_traces(&mut c);
     for _ in 0..rounds {
         for p in 1..=10 {
             blocks(&mut c, p);
         }
-        outputs(&mut c);
-        for call in [Call::Forward, Call::Backward, Call::Power] {
+        power_outputs(&mut c);
+        parts_outputs(&mut c);
+        for call in ON_A_BLOCK {
             limits(&mut c, call);
             lengths(&mut c, call);
-            for _ in 0..SEVERAL {
-                let (cells, output) = several_faults(limits_of(call), &mut c.random);
-                c.signed_block(call, "several faults", &cells, &output);
-            }
+            several(&mut c, call);
         }
+        lines::lines(&mut c);
+        fetches::fetches(&mut c);
         traces(&mut c);
     }
     c.tally.print();
     c.tally.must_be_complete();
-    println!("\ncomparison: ok, {} inputs", c.tally.inputs);
+    println!("\ncomparison: ok, {} inputs, {worked} of them worked samples", worked + c.tally.inputs);
 }
 
-/// Accepted blocks: forward; backward and power of what it left; the same of spectra. Forward and backward take each
-/// with its negative.
+/// Accepted blocks: forward; backward, parts, power and a scaled line of what it left; the same of spectra. Forward and
+/// backward take each with its negative.
 fn blocks(c: &mut Comparison, p: usize) {
     let n = LENGTHS[p - 1];
     for i in 0..BLOCKS[p - 1] {
@@ -67,65 +72,110 @@ fn blocks(c: &mut Comparison, p: usize) {
         let (_, lines) = c.signed_block(Call::Forward, shape, &bytes_of(&samples), &[]);
         let spectrum = bytes_of(&shaped(shape, n, LINES, &mut c.random));
         for (sort, given) in [("what forward left", lines), ("spectra so shaped", spectrum)] {
-            c.signed_block(Call::Backward, sort, &given, &[]);
-            let output = c.random.bytes(8 * (n / 2 + 1));
-            c.signed_block(Call::Power, sort, &given, &output);
+            for call in [Call::Backward, Call::Parts, Call::Power] {
+                let outputs = c.outputs(call, 8 * (n / 2 + 1));
+                c.signed_block(call, sort, &given, &outputs);
+            }
+            let line = any_line(n, &mut c.random);
+            c.scaled(sort, &given, line);
         }
     }
 }
 
+/// One input of a call on a block of n cells, with outputs that fit; for scaled, with a line and with one above N/2.
+fn lend(c: &mut Comparison, call: Call, sort: &'static str, cells: &[u8], n: usize) {
+    if call == Call::Scaled {
+        for line in [any_line(n, &mut c.random), any_line_above(n, &mut c.random)] {
+            c.scaled(sort, cells, line);
+        }
+        return;
+    }
+    let outputs = c.outputs(call, 8 * (n / 2 + 1));
+    c.signed_block(call, sort, cells, &outputs);
+}
+
 /// Cells at the limits, which pass, one step outside and far outside, in one place and in several.
 fn limits(c: &mut Comparison, call: Call) {
-    let (low, high) = limits_of(call);
+    let (low, high) = call.limits();
     for n in LENGTHS {
-        let output = c.random.bytes(8 * (n / 2 + 1));
         for value in [low, high, low - 1, high + 1, i64::MIN, i64::MAX] {
             for place in [0, n - 1, c.random.below(n)] {
                 let mut cells = shaped("full range", n, (low, high), &mut c.random);
                 cells[place] = value;
-                c.signed_block(call, "cell at a limit or outside", &bytes_of(&cells), &output);
+                lend(c, call, "cell at a limit or outside", &bytes_of(&cells), n);
             }
         }
         for _ in 0..10 {
             let mut cells = shaped("full range", n, (low, high), &mut c.random);
             make_loud(&mut cells, (low, high), &mut c.random);
-            c.signed_block(call, "cells outside", &bytes_of(&cells), &output);
+            lend(c, call, "cells outside", &bytes_of(&cells), n);
         }
-    }
-}
-
-fn limits_of(call: Call) -> (i64, i64) {
-    match call {
-        Call::Forward => SAMPLES,
-        _ => LINES,
     }
 }
 
 /// Wrong lengths, and bytes left over or lacking around every permitted length.
 fn lengths(c: &mut Comparison, call: Call) {
     for count in (0..600).chain([1022, 1023, 1024, 1025, 2047, 2048, 2049, 4096, 65_536]) {
-        let cells = shaped("full range", count, limits_of(call), &mut c.random);
-        let output = c.random.bytes(8 * (count / 2 + 1));
-        c.signed_block(call, "length", &bytes_of(&cells), &output);
+        let cells = shaped("full range", count, call.limits(), &mut c.random);
+        lend(c, call, "length", &bytes_of(&cells), count);
     }
     for n in LENGTHS {
-        let cells = bytes_of(&shaped("up to 100", n + 1, limits_of(call), &mut c.random));
-        let output = c.random.bytes(8 * (n / 2 + 1));
+        let cells = bytes_of(&shaped("up to 100", n + 1, call.limits(), &mut c.random));
         for count in 8 * n - 7..=8 * n + 7 {
-            c.signed_block(call, "bytes left over", &cells[..count], &output);
+            lend(c, call, "bytes left over", &cells[..count], n);
         }
     }
 }
 
-/// Power with outputs of every count of cells up to twice the right one, of odd bytes, and huge.
-fn outputs(c: &mut Comparison) {
+/// Blocks with and without each fault, and outputs or a line with and without theirs.
+fn several(c: &mut Comparison, call: Call) {
+    for _ in 0..SEVERAL {
+        let n = c.random.pick(&LENGTHS);
+        let cells = several_faults(n, call.limits(), &mut c.random);
+        if call == Call::Scaled {
+            let lines = [any_line(n, &mut c.random), any_line_above(n, &mut c.random)];
+            let line = c.random.pick(&lines);
+            c.scaled("several faults", &cells, line);
+            continue;
+        }
+        let outputs: Vec<Vec<u8>> = (0..call.outputs()).map(|_| any_output(n, &mut c.random)).collect();
+        c.signed_block(call, "several faults", &cells, &outputs);
+    }
+}
+
+/// Counts of bytes for an output: every count of cells up to twice the right one, with odd bytes, and huge.
+fn counts(right: usize) -> impl Iterator<Item = usize> {
+    let cells = (0..=2 * right).step_by(8);
+    cells.chain(right - 9..=right + 9).chain([8 * 65_536, 8 * 65_536 + right])
+}
+
+/// Power with outputs of every such count.
+fn power_outputs(c: &mut Comparison) {
+    for n in LENGTHS {
+        let spectrum = bytes_of(&shaped("full range", n, LINES, &mut c.random));
+        for count in counts(8 * (n / 2 + 1)) {
+            let output = c.random.bytes(count);
+            c.signed_block(Call::Power, "output", &spectrum, &[output]);
+        }
+    }
+}
+
+/// Parts with either output of every such count and the other right, and with both wrong, alike and not.
+fn parts_outputs(c: &mut Comparison) {
     for n in LENGTHS {
         let right = 8 * (n / 2 + 1);
         let spectrum = bytes_of(&shaped("full range", n, LINES, &mut c.random));
-        let cells = (0..=2 * right).step_by(8);
-        for count in cells.chain(right - 9..=right + 9).chain([8 * 65_536, 8 * 65_536 + right]) {
-            let output = c.random.bytes(count);
-            c.signed_block(Call::Power, "output", &spectrum, &output);
+        for count in counts(right) {
+            let other = c.random.pick(&[0, 8, right - 8, right - 1, right + 1, right + 8, 2 * right, count + 8]);
+            for (sort, [real, imaginary]) in [
+                ("real output", [count, right]),
+                ("imaginary output", [right, count]),
+                ("both outputs", [count, count]),
+                ("both outputs", [count, other]),
+            ] {
+                let outputs = [c.random.bytes(real), c.random.bytes(imaginary)];
+                c.signed_block(Call::Parts, sort, &spectrum, &outputs);
+            }
         }
     }
 }
@@ -134,14 +184,14 @@ fn outputs(c: &mut Comparison) {
 fn small_traces(c: &mut Comparison) {
     let faulty = traces::bytes(&[traces::head(0, 11)]);
     for cut in 0..=faulty.len() {
-        c.check("faulty head cut", &faulty[..cut]);
+        check_and_fetch(c, "faulty head cut", &faulty[..cut]);
     }
     for place in 0..worked::TRACE.len() {
-        c.check("worked trace cut", &worked::TRACE[..place]);
+        check_and_fetch(c, "worked trace cut", &worked::TRACE[..place]);
         for value in 0..=255 {
             let mut trace = worked::TRACE;
             trace[place] = value;
-            c.check("worked trace, one byte", &trace);
+            check_and_fetch(c, "worked trace, one byte", &trace);
         }
     }
 }
@@ -172,9 +222,15 @@ fn traces(c: &mut Comparison) {
     }
 }
 
-/// The check of a trace, and at times its listing.
-fn trace_call(c: &mut Comparison, sort: &'static str, trace: &[u8]) {
+/// The check of a trace, and the fetch of any block.
+fn check_and_fetch(c: &mut Comparison, sort: &'static str, trace: &[u8]) {
     c.check(sort, trace);
+    fetches::any(c, sort, trace);
+}
+
+/// The same, and at times the listing.
+fn trace_call(c: &mut Comparison, sort: &'static str, trace: &[u8]) {
+    check_and_fetch(c, sort, trace);
     if c.random.once_in(LISTED) {
         c.list(sort, trace);
     }

@@ -1,21 +1,41 @@
 //! Counts what was run and how it was answered, and prints the tables.
 
+use crate::call::Call;
+use oracle::Scaled;
 use std::collections::{BTreeMap, BTreeSet};
 use std::process::exit;
 
-#[derive(Clone, Copy, Debug, PartialEq, Eq, PartialOrd, Ord)]
-pub enum Call {
-    Forward,
-    Backward,
-    Power,
-    Check,
-    List,
-}
+/// Every call, with the numbers of its refusals: those that are given at every P, 0 being the accepted inputs, and
+/// those of blocks and traces that have no P.
+const ANSWERS: [(Call, &[usize], &[usize]); 8] = [
+    (Call::Forward, &[0, 3], &[1]),
+    (Call::Backward, &[0, 3], &[1]),
+    (Call::Parts, &[0, 2, 3], &[1]),
+    (Call::Power, &[0, 2, 3], &[1]),
+    (Call::Scaled, &[0, 3, 4], &[1]),
+    (Call::Check, &[0], &[10, 11, 12, 13, 14, 15]),
+    (Call::Fetch, &[0, 2, 16], &[10, 11, 12, 13, 14, 15]),
+    (Call::List, &[0], &[10, 11, 12, 13, 14, 15]),
+];
 
-const NUMBERS: [usize; 9] = [1, 2, 3, 10, 11, 12, 13, 14, 15];
+/// Faults that an input can have together, in the order of their tests: the first decides.
+const TOGETHER: [(Call, [u64; 2]); 10] = [
+    (Call::Forward, [1, 3]),
+    (Call::Backward, [1, 3]),
+    (Call::Parts, [1, 3]),
+    (Call::Parts, [2, 3]),
+    (Call::Power, [1, 3]),
+    (Call::Power, [2, 3]),
+    (Call::Scaled, [1, 3]),
+    (Call::Scaled, [1, 4]),
+    (Call::Scaled, [3, 4]),
+    (Call::Fetch, [16, 2]),
+];
+
+const NUMBERS: [usize; 11] = [1, 2, 3, 4, 10, 11, 12, 13, 14, 15, 16];
 
 /// Inputs of a call and a sort: how many were accepted, refused by 1, by 2 and so on.
-type Rows = BTreeMap<(Call, &'static str), [u64; 16]>;
+type Rows = BTreeMap<(Call, &'static str), [u64; 17]>;
 
 /// Blocks that a call took with their negatives, and the halves that its divisions met, above and below zero.
 #[derive(Default)]
@@ -25,27 +45,43 @@ struct BothSigns {
     in_division: [u64; 2],
 }
 
+/// Scaled lines of one P: means, last lines and pairs; and the numbers that are 0 while their partner is negative: a
+/// mean beside the last line, a last line beside the mean, a real part beside the imaginary one, and that beside the
+/// real.
+#[derive(Default)]
+struct Lines {
+    cases: [u64; 3],
+    zeros: [u64; 4],
+}
+
 #[derive(Default)]
 pub struct Tally {
     pub inputs: u64,
     rows: Rows,
     totals: Rows,
-    accepted: BTreeSet<(Call, u32)>,              // each P that each call accepted
-    both_signs: BTreeMap<(Call, u32), BothSigns>, // the same, of each P
-    pub only_one_sign: u64,                       // the blocks that forward took without their negatives
-    pub measured: [u64; 11],                      // for each P the blocks measured
-    pub farthest: [i128; 11],                     // and the largest distance, times 2^60
+    /// Each refusal of each call, or 0, at each P.
+    seen: BTreeSet<(Call, usize, u32)>,
+    /// Inputs with two faults, refused for the first.
+    together: BTreeMap<(Call, [u64; 2]), u64>,
+    /// The blocks of each P taken with their negatives, and those that forward took without.
+    both_signs: BTreeMap<(Call, u32), BothSigns>,
+    pub only_one_sign: u64,
+    /// For each P the scaled lines, and the fetched blocks: 0, 1 and above.
+    lines: [Lines; 11],
+    fetched: [[u64; 3]; 11],
+    /// For each P the blocks measured, and the largest distance, times 2^60.
+    pub measured: [u64; 11],
+    pub farthest: [i128; 11],
 }
 
 impl Tally {
-    /// Counts one input: the number of its refusal, or 0 and the P that was accepted.
+    /// Counts one input: the number of its refusal, or 0 where it is accepted, and its P where it has one.
     pub fn count(&mut self, call: Call, sort: &'static str, number: u64, p: u32) {
+        let number = number as usize;
         self.inputs += 1;
-        self.rows.entry((call, sort)).or_default()[number as usize] += 1;
-        self.totals.entry((call, "all")).or_default()[number as usize] += 1;
-        if number == 0 {
-            self.accepted.insert((call, p));
-        }
+        self.rows.entry((call, sort)).or_default()[number] += 1;
+        self.totals.entry((call, "all")).or_default()[number] += 1;
+        self.seen.insert((call, number, p));
     }
 
     /// Counts a block that was taken with its negative, and the halves that its divisions meet: those of the levels, and
@@ -59,13 +95,64 @@ impl Tally {
         }
     }
 
+    /// Counts a scaled line of an accepted spectrum.
+    pub fn count_line(&mut self, p: usize, line: Scaled, spectrum: &[i64]) {
+        let (first, last) = (spectrum[0], spectrum[spectrum.len() / 2]);
+        let lines = &mut self.lines[p];
+        match line {
+            Scaled::Mean(_) => {
+                lines.cases[0] += 1;
+                lines.zeros[0] += u64::from(first == 0 && last < 0);
+            }
+            Scaled::Last(_) => {
+                lines.cases[1] += 1;
+                lines.zeros[1] += u64::from(last == 0 && first < 0);
+            }
+            Scaled::Pair { real, imaginary } => {
+                lines.cases[2] += 1;
+                lines.zeros[2] += u64::from(real.numerator == 0 && imaginary.numerator < 0);
+                lines.zeros[3] += u64::from(imaginary.numerator == 0 && real.numerator < 0);
+            }
+        }
+    }
+
+    /// Counts block k, fetched from a trace of this P.
+    pub fn count_fetched(&mut self, p: usize, k: u64) {
+        self.fetched[p][k.min(2) as usize] += 1;
+    }
+
+    /// Counts a refused block if it was loud as well, and if the line was above N/2 as well.
+    pub fn count_faults(&mut self, call: Call, number: u64, cells: &[i64], line: Option<u64>) {
+        if number < 3 {
+            self.count_together(call, [number, 3], call.is_loud(cells));
+        }
+        let half = if number == 1 { 512 } else { cells.len() as u64 / 2 }; // of the longest, where the length is wrong
+        if number < 4 {
+            self.count_together(call, [number, 4], line.is_some_and(|line| line > half));
+        }
+    }
+
+    /// Counts an input that was refused for the first of two faults, if the second was there as well.
+    pub fn count_together(&mut self, call: Call, faults: [u64; 2], both: bool) {
+        *self.together.entry((call, faults)).or_default() += u64::from(both);
+    }
+
+    fn seen_together(&self, call: Call, faults: [u64; 2]) -> u64 {
+        self.together.get(&(call, faults)).copied().unwrap_or(0)
+    }
+
     pub fn print(&self) {
         let numbers = NUMBERS.map(|number| format!("{number:>7}")).concat();
-        println!("{:36}{:>8}{:>9}{numbers}", "inputs", "run", "accepted");
+        println!("{:40}{:>8}{:>9}{numbers}", "inputs", "run", "accepted");
         for ((call, sort), row) in self.rows.iter().chain(&self.totals) {
             let run: u64 = row.iter().sum();
             let refused = NUMBERS.map(|number| format!("{:>7}", row[number])).concat();
-            println!("{:36}{run:>8}{:>9}{refused}", format!("{call:?}, {sort}"), row[0]);
+            println!("{:40}{run:>8}{:>9}{refused}", format!("{call:?}, {sort}"), row[0]);
+        }
+        println!();
+        for (call, faults) in TOGETHER {
+            let [first, second] = faults;
+            println!("{call:?} refused by {first}, where {second} holds as well: {}", self.seen_together(call, faults));
         }
         let heads = format!("{:>24}{:>24}", "halves at the levels", "in the division");
         println!("\n{:14}{:>2}{:>9}{heads}", "with negative", "P", "blocks");
@@ -74,6 +161,22 @@ impl Tally {
             println!("{:14}{p:>2}{:>9}{}", format!("{call:?}"), both.blocks, halves.concat());
         }
         println!("and {} blocks that forward takes without the negative", self.only_one_sign);
+        self.print_each_p();
+    }
+
+    fn print_each_p(&self) {
+        let cases = ["means", "last lines", "pairs"].map(|case| format!("{case:>12}")).concat();
+        let zeros = ["mean", "last", "real", "imaginary"].map(|part| format!("{part:>11}")).concat();
+        println!("\n{:>2}{cases}   0 beside a negative:{zeros}", "P");
+        for p in 1..=10 {
+            let cases = self.lines[p].cases.map(|count| format!("{count:>12}")).concat();
+            let zeros = self.lines[p].zeros.map(|count| format!("{count:>11}")).concat();
+            println!("{p:>2}{cases}{:23}{zeros}", "");
+        }
+        println!("\n{:>2}{:>12}{:>12}{:>12}", "P", "block 0", "block 1", "above");
+        for p in 1..=10 {
+            println!("{p:>2}{}", self.fetched[p].map(|count| format!("{count:>12}")).concat());
+        }
         println!("\n{:>2}{:>9}{:>18}{:>8}", "P", "blocks", "largest distance", "E(P)");
         for p in 1..=10 {
             let far = (self.farthest[p] * 1000 + (1 << 60) - 1) / (1 << 60); // rounded up
@@ -82,32 +185,73 @@ impl Tally {
         }
     }
 
-    /// Ends the program if a call never accepted some P or never gave one of its refusals, if no block of some P was taken
-    /// with its negative or none without, or if a division never met a half: of a level from P = 3 on, where they begin.
+    /// Ends the program if something that the comparison is to show was never seen.
     pub fn must_be_complete(&self) {
+        let lacking = self.lacking();
+        for what in &lacking {
+            println!("comparison: {what}");
+        }
+        if !lacking.is_empty() {
+            exit(1);
+        }
+    }
+
+    fn lacking(&self) -> Vec<String> {
+        let mut lacking = self.lacking_signs();
+        for (call, at_every_p, others) in ANSWERS {
+            for (number, p) in at_every_p.iter().flat_map(|&number| (1..=10).map(move |p| (number, p))) {
+                if !self.seen.contains(&(call, number, p)) {
+                    let what = if number == 0 { "accepted input".into() } else { format!("refusal {number}") };
+                    lacking.push(format!("{call:?} has shown no {what} at P {p}"));
+                }
+            }
+            let seen = self.totals.get(&(call, "all")).copied().unwrap_or_default();
+            for number in others.iter().filter(|&&number| seen[number] == 0) {
+                lacking.push(format!("{call:?} has shown no refusal {number}"));
+            }
+        }
+        for (call, faults) in TOGETHER.iter().filter(|(call, faults)| self.seen_together(*call, *faults) == 0) {
+            lacking.push(format!("{call:?} has shown no faults {faults:?} together"));
+        }
+        for p in 1..=10 {
+            lacking.extend(self.lacking_cases(p));
+        }
+        lacking
+    }
+
+    /// A block of each P, taken by forward and backward with its negative, and one without; and in each division a half,
+    /// that of a level from P = 3 on, where they begin.
+    fn lacking_signs(&self) -> Vec<String> {
+        let mut lacking = Vec::new();
         for (call, p) in [Call::Forward, Call::Backward].iter().flat_map(|call| (1..=10).map(move |p| (*call, p))) {
             let shown = self.both_signs.get(&(call, p)).is_some_and(|both| {
                 let levels = p < 3 || !both.at_levels.contains(&0);
                 levels && (call == Call::Forward || !both.in_division.contains(&0))
             });
             if !shown || self.only_one_sign == 0 {
-                println!("comparison: {call:?} has not shown P {p} with its negative and with halves");
-                exit(1);
+                lacking.push(format!("{call:?} has not shown P {p} with its negative and with halves"));
             }
         }
-        for (call, refusals) in [
-            (Call::Forward, &[1, 3][..]),
-            (Call::Backward, &[1, 3]),
-            (Call::Power, &[1, 2, 3]),
-            (Call::Check, &[10, 11, 12, 13, 14, 15]),
-            (Call::List, &[10, 11, 12, 13, 14, 15]),
-        ] {
-            let every_refusal = refusals.iter().all(|&no| self.totals[&(call, "all")][no] > 0);
-            let every_p = (1..=10).all(|p| self.accepted.contains(&(call, p)));
-            if !every_refusal || !every_p {
-                println!("comparison: {call:?} has not shown every refusal and every P");
-                exit(1);
+        lacking
+    }
+
+    /// Every case of a scaled line of this P, zeros beside negatives, and the first, the second and a later block of a
+    /// trace. A block of two cells has no pair.
+    fn lacking_cases(&self, p: usize) -> Vec<String> {
+        let mut lacking = Vec::new();
+        let Lines { cases: [means, last_lines, pairs], zeros: [mean, last, real, imaginary] } = self.lines[p];
+        let of_all = [("mean", means), ("last line", last_lines), ("mean of 0", mean), ("last line of 0", last)];
+        let of_pairs = [("pair", pairs), ("real part of 0", real), ("imaginary part of 0", imaginary)];
+        for (what, count) in of_all.iter().chain(if p == 1 { &[][..] } else { &of_pairs }) {
+            if *count == 0 {
+                lacking.push(format!("Scaled has shown no {what} at P {p}"));
             }
         }
+        for (what, count) in ["block 0", "block 1", "block above 1"].iter().zip(self.fetched[p]) {
+            if count == 0 {
+                lacking.push(format!("Fetch has shown no {what} at P {p}"));
+            }
+        }
+        lacking
     }
 }

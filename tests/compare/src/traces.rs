@@ -1,6 +1,7 @@
 //! Accepted traces, and ways to damage them.
 
-use crate::inputs::{shaped, SAMPLES, SHAPES};
+use crate::call::SAMPLES;
+use crate::inputs::{shaped, SHAPES};
 use crate::random::Random;
 
 /// The most bytes that a trace may have.
@@ -69,6 +70,33 @@ pub fn short(random: &mut Random) -> Vec<Record> {
     for _ in 0..random.below(6) {
         records.push(if random.once_in(2) { any_note(random) } else { any_block(p, random) });
     }
+    records.push(end());
+    records
+}
+
+/// A trace of so many blocks, at times with notes before, between and after them, some as long as a block.
+pub fn several(p: u16, blocks: usize, random: &mut Random) -> Vec<Record> {
+    let mut records = vec![any_head(p, random)];
+    for _ in 0..blocks {
+        if random.once_in(8) {
+            records.push(any_note(random));
+        }
+        if random.once_in(8) {
+            records.push(record(3, random.bytes((2 << p).min(255))));
+        }
+        records.push(any_block(p, random));
+    }
+    if random.once_in(2) {
+        records.push(any_note(random));
+    }
+    records.push(end());
+    records
+}
+
+/// A trace of so many blocks and nothing between them.
+pub fn only_blocks(p: u16, blocks: usize, random: &mut Random) -> Vec<Record> {
+    let mut records = vec![any_head(p, random)];
+    records.extend((0..blocks).map(|_| any_block(p, random)));
     records.push(end());
     records
 }

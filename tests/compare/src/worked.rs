@@ -1,9 +1,11 @@
 //! The samples that document 01 works by hand, and some of document 02, as far as the archive and the listing program
 //! show them. The comparison finds both equal to the second program; here they are found equal to the papers' figures.
 
-use crate::compare::{accepted, refused, Comparison};
+use crate::call::Call;
+use crate::compare::Comparison;
+use crate::double;
 use crate::inputs::{bytes_of, cells_of};
-use crate::tally::Call;
+use crate::report::{accepted, refused};
 use crate::traces::{bytes, end, head, record};
 
 const SORT: &str = "worked sample";
@@ -16,19 +18,45 @@ pub const TRACE: [u8; 32] = [
 const LISTING: &str = "trace 8000 4 1\n0 0 20 0 200\n0 1 -4 4 16\n0 2 -4 0 8\nend\n";
 
 pub fn samples(c: &mut Comparison) {
-    // The second program's table and bounds.
+    second_program();
+    blocks(c);
+    scaled_lines(c);
+    refused_blocks(c);
+    traces(c);
+    fetches(c);
+}
+
+/// The second program's table and bounds, and how a double is held to a fraction.
+fn second_program() {
     for (j, t) in [(0, 32768), (64, 30274), (128, 23170), (192, 12540), (256, 0)] {
         assert_eq!(oracle::table_cosine(j), t, "T({j}) of the second program");
     }
     assert_eq!(oracle::E, [0, 0, 5, 22, 72, 213, 598, 1624, 4317, 11306]);
+    let five_halves = oracle::Fraction { numerator: 10, denominator: 4 };
+    let nothing = oracle::Fraction { numerator: 0, denominator: 4 };
+    let bits = 2.5_f64.to_bits();
+    assert_eq!(double::fault(bits, five_halves), None);
+    for wrong in [bits + 1, bits - 1, bits | 1 << 63, bits + (1 << 52), bits - (1 << 52), 0, 1, u64::MAX >> 12] {
+        assert_eq!(double::fault(wrong, five_halves), Some("another number"), "bits {wrong:016X}");
+    }
+    assert_eq!(double::fault(f64::MAX.to_bits(), five_halves), Some("another number"));
+    for wrong in [f64::INFINITY, f64::NEG_INFINITY, f64::NAN] {
+        assert_eq!(double::fault(wrong.to_bits(), five_halves), Some("not finite"));
+    }
+    assert_eq!(double::fault(0, nothing), None);
+    assert_eq!(double::fault(1, nothing), Some("another number"));
+    assert_eq!(double::fault(1 << 63, nothing), Some("minus zero"));
+}
 
-    // Blocks.
+fn blocks(c: &mut Comparison) {
     block(c, Call::Forward, &[0, 0], &[0, 0]);
     block(c, Call::Forward, &[3, -5], &[-2, 8]);
     block(c, Call::Forward, &[1, 2, 3, 4], &[10, -4, -2, 0]);
     block(c, Call::Backward, &[10, -4, -2, 0], &[1, 2, 3, 4]);
+    block(c, Call::Parts, &[10, -4, -2, 0], &[20, -4, -4, 0, 4, 0]);
     block(c, Call::Power, &[10, -4, -2, 0], &[200, 16, 8]);
     block(c, Call::Forward, &[1, 2, 3, 4, 5, 6, 7, 8], &[36, -14, -8, -6, -4, -2, 0, 6]);
+    block(c, Call::Parts, &[36, -14, -8, -6, -4, -2, 0, 6], &[72, -8, -8, -8, -8, 0, 20, 8, 4, 0]);
     block(c, Call::Forward, &[0, 1, 0, 0, 0, 0, 0, 0], &[1, 1, 1, 0, -1, -1, -1, 0]);
 
     // Halves away from zero (document 02, Item 1): 5,792.5 and 3 / 2, and their negatives.
@@ -36,42 +64,129 @@ pub fn samples(c: &mut Comparison) {
     block(c, Call::Forward, &[0, -4096, 0, 0, 0, 0, 0, 0], &[-4096, -5793, -4096, 0, 4096, 5793, 4096, 0]);
     block(c, Call::Backward, &[3, 0], &[2, 2]);
     block(c, Call::Backward, &[-3, 0], &[-2, -2]);
+}
 
-    // Lengths and loud samples.
+/// Lines by hand, as doubles: a mean and a last line (cases 1 and 2) have one, a pair (case 3) has two.
+fn scaled_lines(c: &mut Comparison) {
+    let four = [10, -4, -2, 0];
+    line(c, &four, 0, 1, &[2.5]);
+    line(c, &four, 1, 3, &[-0.5, 0.5]);
+    line(c, &four, 2, 2, &[-0.5]);
+    line(c, &[-2, 8], 0, 1, &[-1.0]);
+    line(c, &[-2, 8], 1, 2, &[4.0]);
+    let eight = [36, -14, -8, -6, -4, -2, 0, 6];
+    line(c, &eight, 0, 1, &[4.5]);
+    line(c, &eight, 1, 3, &[-0.5, 1.25]);
+    line(c, &eight, 2, 3, &[-0.5, 0.5]);
+    line(c, &eight, 3, 3, &[-0.5, 0.25]);
+    line(c, &eight, 4, 2, &[-0.5]);
+    let rising: Vec<i64> = (0..16).collect();
+    line(c, &rising, 0, 1, &[0.0]);
+    line(c, &rising, 1, 3, &[0.5, 0.4375]);
+    line(c, &rising, 7, 3, &[0.5, 0.0625]);
+    line(c, &rising, 8, 2, &[0.5]);
+    // 2^28 passes, and so does its negative; the parts are as large as they can be, or 0
+    line(c, &[-(1 << 28), 1 << 28, 0, -(1 << 28)], 1, 3, &[0.0, -67_108_864.0]);
+    line(c, &[0, -(1 << 28), 1 << 28, -(1 << 28)], 1, 3, &[-67_108_864.0, 0.0]);
+    for (cells, line, answer) in [
+        (&four[..], 3, refused(4, 3)),
+        (&four, 1 << 32, refused(4, 1 << 32)),
+        (&four, (1 << 56) + 1, refused(4, 1)), // of the place, seven bytes are answered
+        (&[-2, 8], 2, refused(4, 2)),
+        (&[0, 0, (1 << 28) + 1, 0], 3, refused(3, 2)),
+        (&[0, 0, 0, -(1 << 28) - 1], 0, refused(3, 3)),
+        (&[1 << 40; 3], 5000, 1),
+    ] {
+        let (given, _) = c.scaled(SORT, &bytes_of(cells), line);
+        assert_eq!(given, answer, "line {line} of {cells:?}");
+    }
+}
+
+/// Lengths and loud samples.
+fn refused_blocks(c: &mut Comparison) {
     for (count, answer) in [(0, 1), (1, 1), (3, 1), (2048, 1), (1024, 0)] {
-        for call in [Call::Forward, Call::Backward, Call::Power] {
-            let output = c.random.bytes(8 * (count / 2 + 1));
-            let (given, _) = c.signed_block(call, SORT, &bytes_of(&vec![0; count]), &output);
+        let cells = bytes_of(&vec![0; count]);
+        for call in [Call::Forward, Call::Backward, Call::Parts, Call::Power] {
+            let outputs = c.outputs(call, 8 * (count / 2 + 1));
+            let (given, _) = c.signed_block(call, SORT, &cells, &outputs);
             assert_eq!(given, answer, "{call:?} of {count} cells");
         }
+        let (given, _) = c.scaled(SORT, &cells, 0);
+        assert_eq!(given % 256, answer, "line 0 of {count} cells");
     }
     for (cells, answer) in [([0, 32_768], refused(3, 1)), ([-32_768, 32_767], 0)] {
         let (given, _) = c.signed_block(Call::Forward, SORT, &bytes_of(&cells), &[]);
         assert_eq!(given, answer, "forward of {cells:?}");
     }
+}
 
-    // Traces.
+fn traces(c: &mut Comparison) {
     trace(c, &TRACE, accepted(8000, 2, 1), LISTING);
     trace(c, &[], refused(11, 0), "refused 11 0\n");
-    let note = |count| bytes(&[head(8000, 2), record(3, vec![7; count]), end()]);
     trace(c, &note(255), accepted(8000, 2, 0), "trace 8000 4 0\nend\n");
     trace(c, &note(256), refused(14, 12), "refused 14 12\n");
 }
 
+/// A trace without blocks, with a note of so many bytes.
+fn note(count: usize) -> Vec<u8> {
+    bytes(&[head(8000, 2), record(3, vec![7; count]), end()])
+}
+
+/// Blocks by hand, and what is answered where there is none or the cells do not fit.
+fn fetches(c: &mut Comparison) {
+    fetch(c, &TRACE, 0, accepted(8000, 2, 1), &[1, 2, 3, 4]);
+    let two = |low: [u8; 2], high: [u8; 2]| record(2, [low, high].concat());
+    let blocks = [two([1, 0], [2, 0]), record(3, vec![2, 0]), two([0, 0x80], [0xFF, 0x7F]), two([0xFF, 0xFF], [5, 0])];
+    let three = bytes(&[&[head(9, 1)][..], &blocks, &[end()]].concat());
+    fetch(c, &three, 0, accepted(9, 1, 3), &[1, 2]);
+    fetch(c, &three, 1, accepted(9, 1, 3), &[-32_768, 32_767]);
+    fetch(c, &three, 2, accepted(9, 1, 3), &[-1, 5]);
+    for (given, k, count, answer) in [
+        (&three[..], 3, 16, refused(16, 3)),
+        (&three, 3, 8, refused(16, 3)), // 16 before 2
+        (&three, 1 << 56, 8, 16),       // of the place, seven bytes are answered
+        (&three, 2, 8, 2),
+        (&three, 2, 17, 2),
+        (&note(255), 0, 32, 16),
+        (&note(256), 0, 0, refused(14, 12)),
+        (&[], 0, 0, refused(11, 0)),
+    ] {
+        let cells = c.random.bytes(count);
+        assert_eq!(c.fetch(SORT, given, k, &cells), (answer, cells), "block {k} of {given:02X?}");
+    }
+}
+
 fn block(c: &mut Comparison, call: Call, cells: &[i64], result: &[i64]) {
-    let output = c.random.bytes(8 * (cells.len() / 2 + 1));
-    let (answer, left) = c.signed_block(call, SORT, &bytes_of(cells), &output);
+    let lent = cells.len() / 2 + 1;
+    let outputs = c.outputs(call, 8 * lent);
+    let (answer, left) = c.signed_block(call, SORT, &bytes_of(cells), &outputs);
     assert_eq!(answer, 0, "{call:?} of {cells:?}");
     assert_eq!(cells_of(&left), result, "{call:?} of {cells:?}");
     let own = match call {
         Call::Forward => oracle::forward(cells),
         Call::Backward => oracle::backward(cells),
-        _ => oracle::power(cells, cells.len() / 2 + 1),
+        Call::Parts => oracle::parts(cells, lent, lent).map(|(real, imaginary)| [real, imaginary].concat()),
+        _ => oracle::power(cells, lent),
     };
     assert_eq!(own, Ok(result.to_vec()), "{call:?} of {cells:?} by the second program");
+}
+
+fn line(c: &mut Comparison, cells: &[i64], line: u64, case: u64, doubles: &[f64]) {
+    let (answer, bits) = c.scaled(SORT, &bytes_of(cells), line);
+    assert_eq!(answer, 256 * case, "line {line} of {cells:?}");
+    for (given, double) in bits.iter().zip(doubles) {
+        assert_eq!(*given, double.to_bits(), "line {line} of {cells:?}");
+    }
 }
 
 fn trace(c: &mut Comparison, trace: &[u8], answer: u64, listing: &str) {
     assert_eq!(c.check(SORT, trace), answer, "check of {trace:02X?}");
     assert_eq!(String::from_utf8_lossy(&c.list(SORT, trace)), listing, "listing of {trace:02X?}");
+}
+
+fn fetch(c: &mut Comparison, trace: &[u8], k: u64, answer: u64, samples: &[i64]) {
+    let cells = c.random.bytes(8 * samples.len());
+    let (given, left) = c.fetch(SORT, trace, k, &cells);
+    assert_eq!((given, cells_of(&left)), (answer, samples.to_vec()), "block {k} of {trace:02X?}");
+    assert_eq!(oracle::fetch(trace, k, samples.len()), Ok(samples.to_vec()), "block {k} by the second program");
 }
