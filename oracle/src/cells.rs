@@ -69,8 +69,8 @@ pub fn scaled_bytes(spectrum: &[u8], line: u64) -> Result<Scaled, Refusal> {
     scaled(&cells_of(spectrum)?, line)
 }
 
-/// A fetch into bytes: the trace's own tests, "then tests 16, then 2". It answers what the check does, and "also fills N
-/// lent cells".
+/// A fetch into bytes: the trace's own tests, "then tests 16, then 2". It answers what the check does, and "also
+/// fills N lent cells".
 pub fn fetch_bytes(trace: &[u8], k: u64, lent: &mut [u8]) -> Result<Contents, Refusal> {
     let held = contents(trace)?;
     test_block(&held, k)?;

@@ -96,8 +96,8 @@ fn fine_cosines() {
     }
 }
 
-/// F(j)² + F(256 - j)² is never above 2^120, and at most 9/4 × 2^60 below it. Document 01 states no such distance: it is
-/// measured, and tells other roundings and other numbers of places apart.
+/// F(j)² + F(256 - j)² is never above 2^120, and at most 9/4 × 2^60 below it. Document 01 states no such distance: it
+/// is measured, and tells other roundings and other numbers of places apart.
 #[test]
 fn squares_of_cosine_and_sine_add_up() {
     for j in 0..=256 {
