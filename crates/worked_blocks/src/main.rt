@@ -248,7 +248,17 @@ fn scaled_lines() {
     scaled_of(&two, 1);
     scaled_of(&two, 2);
     scaled_of(&[0, 0], 0);
-    // 3 before 4
+    let eight = [36, -14, -8, -6, -4, -2, 0, 6];
+    scaled_of(&eight, 1);
+    scaled_of(&eight, 2);
+    scaled_of(&eight, 3);
+    scaled_of(&eight, 4);
+    // lines that are louder than any sample
+    let loud = [268435456, -268435456];
+    scaled_of(&loud, 0);
+    scaled_of(&loud, 1);
+    // 1 and 3 before 4
+    scaled_of(&[0, 0, 0], 2);
     scaled_of(&[0, 268435457], 2);
     scaled_of(&[0, 0, 0, 0], 18446744073709551615);
 }
