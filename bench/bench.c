@@ -142,8 +142,9 @@ static size_t n;
 static uint8_t fresh_bytes[CELL * LARGEST], warm_bytes[CELL * LARGEST];
 static int64_t fresh_cells[LARGEST], warm_cells[LARGEST];
 static double fresh_reals[LARGEST], *warm_reals;
-static uint8_t power_bytes[CELL * (LARGEST / 2 + 1)];
-static int64_t power_cells[LARGEST / 2 + 1];
+static uint8_t line_bytes[2][CELL * (LARGEST / 2 + 1)];
+static int64_t line_cells[2][LARGEST / 2 + 1];
+static double archive_line[2], rule_line[2];
 
 /* Each call gets a fresh copy of the block, in one warm buffer that is not cleared before. */
 static void archive_forward(void)
@@ -176,14 +177,40 @@ static void rule_c_backward(void)
 
 static void archive_power(void)
 {
-    if (hartley_power(fresh_bytes, CELL * n, power_bytes, CELL * (n / 2 + 1)) != 0)
+    if (hartley_power(fresh_bytes, CELL * n, line_bytes[0], CELL * (n / 2 + 1)) != 0)
         fail("the archive's power refuses");
 }
 
 static void rule_c_power(void)
 {
-    if (rule_power(fresh_cells, n, power_cells, n / 2 + 1) != 0)
+    if (rule_power(fresh_cells, n, line_cells[0], n / 2 + 1) != 0)
         fail("the rule's power refuses");
+}
+
+static void archive_parts(void)
+{
+    size_t bytes = CELL * (n / 2 + 1);
+    if (hartley_parts(fresh_bytes, CELL * n, line_bytes[0], bytes, line_bytes[1], bytes) != 0)
+        fail("the archive's parts refuse");
+}
+
+static void rule_c_parts(void)
+{
+    if (rule_parts(fresh_cells, n, line_cells[0], line_cells[1], n / 2 + 1) != 0)
+        fail("the rule's parts refuse");
+}
+
+/* A scaled line: line 1, which is a pair. */
+static void archive_scaled(void)
+{
+    if (hartley_scaled(fresh_bytes, CELL * n, 1, &archive_line[0], &archive_line[1]) != 256 * HARTLEY_PAIR)
+        fail("the archive's scaled line refuses");
+}
+
+static void rule_c_scaled(void)
+{
+    if (rule_scaled(fresh_cells, n, 1, &rule_line[0], &rule_line[1]) != 256 * HARTLEY_PAIR)
+        fail("the rule's scaled line refuses");
 }
 
 #ifdef WITH_FFTW
@@ -322,20 +349,41 @@ static void time_blocks(void)
     time_direction(0);
 }
 
-/* The power of the spectrum that was last timed: P = 10. */
-static void time_power(void)
+/* Both sides have filled the same lines, of one list or of two, or the same doubles. */
+static void expect_same_lines(void)
 {
-    struct contender list[3] = {{.call = archive_power}, {.call = archive_power}, {.call = rule_c_power}};
-    archive_power();
-    rule_c_power();
-    expect_same(power_bytes, power_cells, n / 2 + 1);
+    expect_same(line_bytes[0], line_cells[0], n / 2 + 1);
+    expect_same(line_bytes[1], line_cells[1], n / 2 + 1);
+    if (memcmp(archive_line, rule_line, sizeof rule_line) != 0)
+        fail("the archive and the rule in C differ");
+}
+
+static void time_line_call(const char *what, size_t p, void (*archive)(void), void (*c)(void))
+{
+    struct contender list[3] = {{.call = archive}, {.call = archive}, {.call = c}};
+    set_block(p, 0);
+    archive();
+    c();
+    expect_same_lines();
     measure(list, 3);
-    printf("\nPower, ns per call (best / median):\n");
-    print_head(" P | N | archive | C | archive/C | A/A | spread | growth |");
-    printf("| 10 | %zu |", n);
+    printf("| %s | %zu | %zu |", what, p, n);
     print_times(list, 3, 1);
     printf(" %.2f |", list[2].ratio);
     print_end(list, 3, 0);
+}
+
+/* Power, parts and a scaled line of a spectrum. */
+static void time_lines(void)
+{
+    static const size_t ps[] = {3, 6, 10};
+    printf("\nPower, parts and a scaled line, ns per call (best / median):\n");
+    print_head(" call | P | N | archive | C | archive/C | A/A | spread | growth |");
+    for (size_t i = 0; i < 3; i++)
+        time_line_call("power", ps[i], archive_power, rule_c_power);
+    for (size_t i = 0; i < 3; i++)
+        time_line_call("parts", ps[i], archive_parts, rule_c_parts);
+    for (size_t i = 0; i < 3; i++)
+        time_line_call("scaled", ps[i], archive_scaled, rule_c_scaled);
 }
 
 /* Traces */
@@ -407,6 +455,47 @@ static void time_checks(void)
             print_end(list, 3, before);
             before = list[0].best;
         }
+    }
+}
+
+/* A fetch of the last block. */
+
+static uint8_t block_bytes[CELL * LARGEST];
+static int64_t block_cells[LARGEST];
+static size_t last_block, block_length;
+
+static void archive_fetch(void)
+{
+    answer = hartley_fetch(trace, trace_bytes, last_block, block_bytes, CELL * block_length);
+}
+
+static void rule_c_fetch(void)
+{
+    answer = rule_fetch(trace, trace_bytes, last_block, block_cells, block_length);
+}
+
+static void time_fetches(void)
+{
+    static const size_t ps[] = {1, 3, 6, 10};
+    printf("\nFetch of the last block, ns per call (best / median):\n");
+    print_head(" blocks of P | bytes | records | blocks | archive | C | archive/C | A/A | spread | growth |");
+    for (size_t i = 0; i < 8; i++) {
+        struct contender list[3] = {{.call = archive_fetch}, {.call = archive_fetch}, {.call = rule_c_fetch}};
+        size_t p = ps[i / 2], bytes = i % 2 == 0 ? 18 + 6 + ((size_t)2 << p) : LONGEST;
+        make_trace(bytes, p);
+        last_block = rule_check(trace, trace_bytes) / 65536 % 65536 - 1;
+        block_length = (size_t)1 << p;
+        archive_fetch();
+        uint64_t first = answer;
+        rule_c_fetch();
+        if (first != answer || answer % 256 != 0)
+            fail("the archive's fetch and the one in C differ");
+        expect_same(block_bytes, block_cells, block_length);
+        measure(list, 3);
+        printf("| %zu | %zu | %zu | %zu |", p, bytes, records, last_block + 1);
+        print_times(list, 3, 1);
+        printf(" %.2f |", list[2].ratio);
+        print_end(list, 3, 0);
     }
 }
 
@@ -513,8 +602,9 @@ int main(int count, char **words)
     lister_program = words[3];
     empty_program = words[4];
     time_blocks();
-    time_power();
+    time_lines();
     time_checks();
+    time_fetches();
     time_listings();
     printf("\nA/A, the same contender timed twice, was from %.2f to %.2f in this run.\n", lowest, highest);
     return 0;

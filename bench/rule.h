@@ -14,12 +14,16 @@ enum { HEAD = 1, BLOCK, NOTE, END };
 /* Fills the tables; called once, before all else. */
 void rule_tables(void);
 
-/* Forward and backward replace the n cells; power fills the n / 2 + 1 lines of the powers. */
+/* Forward and backward replace the n cells; power and parts fill so many lines; a scaled line fills its double, or both. */
 uint64_t rule_forward(int64_t *cells, size_t n);
 uint64_t rule_backward(int64_t *cells, size_t n);
 uint64_t rule_power(const int64_t *spectrum, size_t n, int64_t *powers, size_t lines);
+uint64_t rule_parts(const int64_t *spectrum, size_t n, int64_t *real, int64_t *imaginary, size_t lines);
+uint64_t rule_scaled(const int64_t *spectrum, size_t n, size_t line, double *real, double *imaginary);
 
+/* A fetch fills n cells with the samples of block k. */
 uint64_t rule_check(const uint8_t *trace, size_t bytes);
+uint64_t rule_fetch(const uint8_t *trace, size_t bytes, size_t k, int64_t *cells, size_t n);
 
 /* An unsigned number of 2 and of 4 bytes, least byte first. */
 uint32_t rule_two(const uint8_t *at);
