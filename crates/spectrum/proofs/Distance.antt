@@ -1,6 +1,7 @@
 -- Step 5 of the proof of demand 3, the distance theorem, for every scale of at least 12, every rounding and table to the nearest, and every bound
--- M of the samples up to 2^43: each line of the transform, times 2^60, is at most `bound` × 2^60 from the direct sum. By induction over the levels, of which `line-near` and `line-exact` are the step: levels 1 and 2 turn
--- by quarters and lose nothing, and each level after them makes B into 5/2 B + n M / q + 1, rounded up.
+-- M of the samples up to 2^43: each line of the transform, times 2^60, is at most `bound` × 2^60 from the direct sum. By induction over the levels, of
+-- which `line-near` and `line-exact` are the step: levels 1 and 2 turn by quarters and lose nothing, and each level after them makes B into
+-- 5/2 B + n M / q + 1, rounded up.
 -- Example: `distance near 32768 M-small P few xs long quiet v h`, with near : Nearest q R C S and M-small : 32768 ≤ LARGEST-M.
 use mathlib.Core.Path.{_≡_, refl, sym, _∙_, ap, ap₂}
 use mathlib.Core.List.{List, [], _∷_}
