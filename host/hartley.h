@@ -11,12 +11,18 @@
  *
  * Each answer is one number. Its least byte is the number of the refusal, or 0 where nothing is refused; hartley_number
  * reads it.
+ *
+ * Header and archive may be of different days, so a host compares hartley_version() with HARTLEY_VERSION at its start.
+ * docs/CHANGES.md says what has changed.
  */
 #ifndef HARTLEY_H
 #define HARTLEY_H
 
 #include <stddef.h>
 #include <stdint.h>
+
+/* Counts one up with every change to a signature, an answer or a refusal. */
+#define HARTLEY_VERSION 1
 
 #ifdef __cplusplus
 extern "C" {
@@ -51,6 +57,9 @@ enum hartley_scaled_line {
     HARTLEY_LAST = 2,  /* line N/2 */
     HARTLEY_PAIR = 3   /* every other line */
 };
+
+/* The version of the archive, to be compared with HARTLEY_VERSION. */
+uint64_t hartley_version(void);
 
 /* The forward spectrum of a block of N samples, in place of the samples. Answers 0, or a refusal: 1 or 3. The negative of a
    block has the negative spectrum, line by line, where it is not refused: -32,768 has no negative that is taken. */

@@ -16,6 +16,7 @@ ghost use Rattle.fetch_bytes.specs.Fetched.{fetchBytes, fetchedOf};
 ghost use Rattle.trace.specs.Contents.{contents};
 ghost use Rattle.trace.specs.TraceAnswers.{contentsNumbers, traceAnswer};
 ghost use Rattle.packing.specs.Packing.{blocksIn, caseIn, caseNumbers, numberIn, pIn, packed, packedScaled, packedTrace, placeIn, rateIn, unpackedBlock, unpackedFetch, unpackedScaled, unpackedTrace};
+ghost use Rattle.host.specs.Version.{VERSION};
 
 // The forward spectrum of the block that the bytes spell, in its place.
 #[no_mangle]
@@ -144,4 +145,12 @@ pub extern "C" fn hartley_blocks(answer: u64) -> u64
     ensures { λ r. ⌜ r ≡ blocksIn answer ⌝ }
 {
     answer / 65536 % 65536
+}
+
+// The version of this interface, for a host whose header may be of another day than its archive.
+#[no_mangle]
+pub extern "C" fn hartley_version() -> u64
+    ensures { λ r. ⌜ r ≡ VERSION ⌝ }
+{
+    1
 }
