@@ -1,19 +1,22 @@
 /*
- * The spectrum engine and the trace reader of the crispness bench, for hosts in C on x86-64. Link with libhartley.a.
+ * The spectrum engine and the trace reader of the crispness bench, for hosts in C.
  *
- * Every call ends, whatever it is given, and tests that itself. It keeps nothing between calls, and reads and writes
- * only what it is lent. Where it refuses, all that is lent is as it was.
+ * Link with libhartley.a. It is for System V x86-64 in ELF, and needs nothing but the C library.
  *
- * A cell is eight bytes, two's complement, least byte first, at any address. Every count is one of bytes, not of cells.
+ * Lent: a call reads and writes only what it is lent, and keeps nothing between calls. A cell is eight bytes, two's
+ * complement, least byte first, at any address. So an array of int64_t can be lent as it is, cast to uint8_t *, on a
+ * little-endian machine, and x86-64 is one. Every count is one of bytes, not of cells.
+ *
  * The host owes four things: no pointer is null, not even with a count of 0; as many bytes are lent as the count says;
  * nothing that is lent to be written overlaps anything else lent to the same call; and the two doubles of
- * hartley_scaled are aligned as any double.
+ * hartley_scaled are aligned as any double. All else a call tests itself. It ends, whatever it is given. Where it
+ * refuses, all that is lent is as it was.
  *
- * Each answer is one number. Its least byte is the number of the refusal, or 0 where nothing is refused; hartley_number
- * reads it.
+ * Answers: each is one number, and hartley_number reads from it whether the call has refused. Test hartley_number and
+ * not the answer: an accepted check, fetch or scaled line is not 0.
  *
- * Header and archive may be of different days, so a host compares hartley_version() with HARTLEY_VERSION at its start.
- * docs/CHANGES.md says what has changed.
+ * Version: header and archive may be of different days, so a host compares hartley_version() with HARTLEY_VERSION at
+ * its start. docs/CHANGES.md says what has changed.
  */
 #ifndef HARTLEY_H
 #define HARTLEY_H
@@ -23,6 +26,12 @@
 
 /* Counts one up with every change to a signature, an answer or a refusal. */
 #define HARTLEY_VERSION 1
+/* The bytes of a cell. */
+#define HARTLEY_CELL_BYTES 8
+/* The largest block, in cells. Parts and powers have HARTLEY_LARGEST_BLOCK / 2 + 1 at most. */
+#define HARTLEY_LARGEST_BLOCK 1024
+/* The longest trace, in bytes. */
+#define HARTLEY_LONGEST_TRACE 65536
 
 #ifdef __cplusplus
 extern "C" {
@@ -34,6 +43,7 @@ extern "C" {
  * own length has passed 14. A fetch then tests 16, then 2.
  */
 enum hartley_refusal {
+    HARTLEY_OK = 0,      /* nothing is refused */
     HARTLEY_LENGTH = 1,  /* block is not 2 to 1,024 cells and a power of two, or its count of bytes is no multiple of
                             eight; place 0 */
     HARTLEY_MISFIT = 2,  /* a lent output not N cells (fetch) or N/2 + 1 (parts, power), or its count of bytes is no
@@ -61,12 +71,13 @@ enum hartley_scaled_line {
 /* The version of the archive, to be compared with HARTLEY_VERSION. */
 uint64_t hartley_version(void);
 
-/* The forward spectrum of a block of N samples, in place of the samples. Answers 0, or a refusal: 1 or 3. The negative of a
-   block has the negative spectrum, line by line, where it is not refused: -32,768 has no negative that is taken. */
+/* The forward spectrum of a block of N samples, in place of the samples. Answers 0, or a refusal: 1 or 3. The negative
+   of a block has the negative spectrum, line by line, where it is not refused: -32,768 has no negative that is
+   taken. */
 uint64_t hartley_forward(uint8_t *cells, size_t cells_bytes);
 
-/* The block of a spectrum, in place of the spectrum. Answers 0, or a refusal: 1 or 3. The negative of a spectrum gets the same
-   answer and the negative block. */
+/* The block of a spectrum, in place of the spectrum. Answers 0, or a refusal: 1 or 3. The negative of a spectrum gets
+   the same answer and the negative block. */
 uint64_t hartley_backward(uint8_t *cells, size_t cells_bytes);
 
 /* The doubled real and imaginary parts of lines 0 to N/2 of a spectrum H of N cells, each N/2 + 1 cells: H(v) + H(N-v)
@@ -90,19 +101,33 @@ uint64_t hartley_check(const uint8_t *trace, size_t trace_bytes);
    refusal: 10 to 15, 16 or 2. */
 uint64_t hartley_fetch(const uint8_t *trace, size_t trace_bytes, size_t k, uint8_t *cells, size_t cells_bytes);
 
-/* What any answer says: the number of the refusal, or 0 where nothing is refused. */
+/*
+ * Answers read. An answer has eight bytes, here with the least first. Each call below reads its own of them, whatever
+ * answer it is given.
+ *
+ *     the answer of                            byte 0    byte 1    bytes 2, 3    bytes 4 to 7
+ *     forward, backward, parts, power, done    0         0         0             0
+ *     scaled, done                             0         case      0             0
+ *     check, fetch, done                       0         P         blocks        rate
+ *     any call that refuses                    number    place, in seven bytes
+ */
+
+/* Of any answer, byte 0: HARTLEY_OK, or the number of the refusal. */
 uint64_t hartley_number(uint64_t answer);
 
-/* What a refusal says besides: its place, a cell of the block, a byte of the trace, or the line or block asked for. An
-   answer has seven bytes for it: of the place of 4 and 16, which the host gave itself, the highest byte is left off
-   where it is not 0. Every other place is whole. */
+/* Of a refusal, bytes 1 to 7: its place, a cell of the block, a byte of the trace, or the line or block asked for. Of
+   the place of 4 and 16, which the host gave itself, the highest of eight bytes is left off where it is not 0. Every
+   other place is whole. Of an answer that refuses nothing this is no place: it is 0, or the case of a scaled line, or
+   P, blocks and rate in one number. */
 uint64_t hartley_place(uint64_t answer);
 
-/* What the answer to an accepted scaled line says: HARTLEY_MEAN, HARTLEY_LAST or HARTLEY_PAIR. */
+/* Of an accepted scaled line, byte 1: HARTLEY_MEAN, HARTLEY_LAST or HARTLEY_PAIR. Of a refusal this is the least byte
+   of its place, of an accepted trace P, of any other call that is done 0. */
 uint64_t hartley_case(uint64_t answer);
 
-/* What the answer to an accepted trace says, of a check or a fetch: the rate in samples a second, P (a block has N = 2^P
-   cells) and the number of blocks. */
+/* Of an accepted trace, as check and fetch answer it: the rate in samples a second, bytes 4 to 7; P, byte 1, a block
+   having N = 2^P cells; and the number of blocks, bytes 2 and 3. Of a refusal these are bytes of its place. Of any
+   other call that is done they are 0, but hartley_p of a scaled line is its case. */
 uint64_t hartley_rate(uint64_t answer);
 uint64_t hartley_p(uint64_t answer);
 uint64_t hartley_blocks(uint64_t answer);
