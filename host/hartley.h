@@ -15,6 +15,11 @@
  * Answers: each is one number, and hartley_number reads from it whether the call has refused. Test hartley_number and
  * not the answer: an accepted check, fetch or scaled line is not 0.
  *
+ * Threads: calls are safe from several threads at once. Until a call has answered, no other thread touches what it is
+ * lent to write, or writes what it is lent to read.
+ *
+ * Stack: no call takes more than HARTLEY_STACK_BYTES. This is measured and not proved.
+ *
  * Version: header and archive may be of different days, so a host compares hartley_version() with HARTLEY_VERSION at
  * its start. docs/CHANGES.md says what has changed.
  */
@@ -32,6 +37,8 @@
 #define HARTLEY_LARGEST_BLOCK 1024
 /* The longest trace, in bytes. */
 #define HARTLEY_LONGEST_TRACE 65536
+/* The stack that a call takes at most, in bytes, with what the C library takes for it. */
+#define HARTLEY_STACK_BYTES 32768
 
 #ifdef __cplusplus
 extern "C" {
