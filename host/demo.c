@@ -1,7 +1,7 @@
 /*
- * How a host in C uses the spectrum engine and the trace reader: each entry is called; its answer, and the cells and
- * scaled lines of the blocks worked by hand, are shown and compared. Ends with "demo: ok", or with what went wrong and
- * exit status 1.
+ * How a host in C uses the spectrum engine and the trace reader. Start with mean_frequency, the first use below, from
+ * end to end. After it each entry is called on tables of cases; its answer, and the cells and scaled lines of the
+ * blocks worked by hand, are shown and compared. Ends with "demo: ok", or with what went wrong and exit status 1.
  */
 #include "hartley.h"
 
@@ -11,13 +11,76 @@
 #include <stdlib.h>
 #include <string.h>
 
+/* A trace of 8,000 samples a second, P = 3: a block of one wave, and a block of two. */
+static const uint8_t biscuit[] = {
+    6, 0, 0, 0, 1, 0, 0x40, 0x1f, 0, 0, 3, 0,
+    16, 0, 0, 0, 2, 0, /* 100, 71, 0, -71, -100, -71, 0, 71 */
+    100, 0, 71, 0, 0, 0, 0xb9, 0xff, 0x9c, 0xff, 0xb9, 0xff, 0, 0, 71, 0,
+    16, 0, 0, 0, 2, 0, /* 230, 130, 30, 130, 230, 130, 30, 130 */
+    230, 0, 130, 0, 30, 0, 130, 0, 230, 0, 130, 0, 30, 0, 130, 0,
+    0, 0, 0, 0, 4, 0
+};
+
+/* Whether a call has refused; if so it is told. */
+static int refused(const char *call, uint64_t answer)
+{
+    if (hartley_number(answer) == HARTLEY_OK)
+        return 0;
+    printf("%s: refused %" PRIu64 " at %" PRIu64 "\n", call, hartley_number(answer), hartley_place(answer));
+    return 1;
+}
+
+/* The strongest line of block k, of n samples, or 0 where a call refuses. Line 0 is the mean, and is left out. */
+static size_t strongest_line(const uint8_t *trace, size_t trace_bytes, size_t k, size_t n)
+{
+    int64_t cells[HARTLEY_LARGEST_BLOCK], powers[HARTLEY_LARGEST_BLOCK / 2 + 1];
+    size_t cells_bytes = n * HARTLEY_CELL_BYTES, powers_bytes = (n / 2 + 1) * HARTLEY_CELL_BYTES;
+    if (refused("fetch", hartley_fetch(trace, trace_bytes, k, (uint8_t *)cells, cells_bytes)))
+        return 0;
+    /* the spectrum takes the place of the samples */
+    if (refused("forward", hartley_forward((uint8_t *)cells, cells_bytes)))
+        return 0;
+    if (refused("power", hartley_power((uint8_t *)cells, cells_bytes, (uint8_t *)powers, powers_bytes)))
+        return 0;
+    size_t strongest = 1;
+    for (size_t v = 2; v <= n / 2; v++)
+        if (powers[v] > powers[strongest])
+            strongest = v;
+    return strongest;
+}
+
+/* Shows the strongest line of each block of a trace. Answers the mean of their frequencies, or -1 if there is none. */
+static double mean_frequency(const uint8_t *trace, size_t trace_bytes)
+{
+    if (hartley_version() != HARTLEY_VERSION) {
+        printf("header of version %d, archive of version %" PRIu64 "\n", HARTLEY_VERSION, hartley_version());
+        return -1;
+    }
+    uint64_t checked = hartley_check(trace, trace_bytes);
+    if (refused("check", checked))
+        return -1;
+    size_t n = (size_t)1 << hartley_p(checked), blocks = hartley_blocks(checked);
+    double sum = 0;
+    for (size_t k = 0; k < blocks; k++) {
+        size_t v = strongest_line(trace, trace_bytes, k, n);
+        if (v == 0)
+            return -1;
+        double hertz = (double)hartley_rate(checked) * (double)v / (double)n;
+        printf("block %zu: strongest at line %zu, %g hertz\n", k, v, hertz);
+        sum += hertz;
+    }
+    return blocks > 0 ? sum / (double)blocks : -1;
+}
+
+/* From here on: the tables of cases, and the functions that show them. */
+
 #define COUNT(rows) (sizeof(rows) / sizeof(rows)[0])
 /* What both doubles hold before a scaled line is asked for; none is as large. */
 #define LENT 1e300
 /* What is left of 2^64 - 1 where it is the place of a refusal, which has seven bytes in an answer. */
 #define PLACE_MAX (UINT64_MAX >> 8)
 
-enum { CELL = 8, LOUDEST = 1 << 28, TRACE = 32, THREE = 69 };
+enum { CELL = HARTLEY_CELL_BYTES, LOUDEST = 1 << 28, TRACE = 32, THREE = 69 };
 enum entry { FORWARD, BACKWARD, PARTS, POWER };
 
 /* Blocks worked by hand: samples, spectrum, doubled parts, doubled powers, and of each scaled line the two doubles. */
@@ -400,9 +463,19 @@ static void show_fetch(const struct fetched *row)
     take_back(cells, row->number != 0);
 }
 
+/* The use from end to end, of the trace and of the trace without its last byte. */
+static void show_use(void)
+{
+    if (mean_frequency(biscuit, sizeof biscuit) != 1500)
+        fail("another frequency was expected");
+    if (mean_frequency(biscuit, sizeof biscuit - 1) != -1)
+        fail("a refusal was expected");
+}
+
 int main(void)
 {
-    static const uint8_t zeros[65537];
+    static const uint8_t zeros[HARTLEY_LONGEST_TRACE + 1];
+    show_use();
     for (size_t i = 0; i < COUNT(worked); i++)
         show_worked(&worked[i]);
     for (size_t i = 0; i < COUNT(bounds); i++)
@@ -414,8 +487,8 @@ int main(void)
         show_fault(&faults[i]);
     expect("check, a note of 255 bytes", check_of_note(255), 0, 0);
     expect("check, a note of 256 bytes", check_of_note(256), HARTLEY_SIZE, 12);
-    expect("check, 65537 bytes", check_of(zeros, 65537), HARTLEY_LONG, 0);
-    expect("check, 65536 bytes of 0", check_of(zeros, 65536), HARTLEY_KIND, 0);
+    expect("check, 65537 bytes", check_of(zeros, HARTLEY_LONGEST_TRACE + 1), HARTLEY_LONG, 0);
+    expect("check, 65536 bytes of 0", check_of(zeros, HARTLEY_LONGEST_TRACE), HARTLEY_KIND, 0);
     for (size_t i = 0; i < COUNT(fetches); i++)
         show_fetch(&fetches[i]);
     printf("demo: ok\n");

@@ -1,5 +1,5 @@
 /*
- * The spectrum engine and the trace reader of the crispness bench, for hosts in C.
+ * The spectrum engine and the trace reader of the crispness bench, for hosts in C. demo.c begins with one whole use.
  *
  * Link with libhartley.a. It is for System V x86-64 in ELF, and needs nothing but the C library.
  *
