@@ -30,7 +30,7 @@ static int refused(const char *call, uint64_t answer)
     return 1;
 }
 
-/* The strongest line of block k, of n samples, or 0 where a call refuses. Line 0 is the mean, and is left out. */
+/* The strongest line of block k, of n samples, or 0 where a call refuses. Line 0, the sum, is left out. */
 static size_t strongest_line(const uint8_t *trace, size_t trace_bytes, size_t k, size_t n)
 {
     int64_t cells[HARTLEY_LARGEST_BLOCK], powers[HARTLEY_LARGEST_BLOCK / 2 + 1];

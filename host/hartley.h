@@ -35,7 +35,8 @@
 #define HARTLEY_CELL_BYTES 8
 /* The largest block, in cells. Parts and powers have HARTLEY_LARGEST_BLOCK / 2 + 1 at most. */
 #define HARTLEY_LARGEST_BLOCK 1024
-/* The longest trace, in bytes. */
+/* The longest trace, in bytes. A host that reads a file makes room for one byte more, so that a longer file is refused
+   (10) and not cut short. */
 #define HARTLEY_LONGEST_TRACE 65536
 /* The stack that a call takes at most, in bytes, with what the C library takes for it. */
 #define HARTLEY_STACK_BYTES 32768
