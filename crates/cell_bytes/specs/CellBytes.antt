@@ -4,8 +4,8 @@ use mathlib.Core.List.{List, []}
 use Prim.Native.Nat.{ℕ, _*_, _/_, _%_}
 use lib.Dec.{eqb, leb}
 use lib.IntN.{ℤ}
-use lib.ListN.{length}
-use Rattle.little_endian.specs.Reading.{signeds}
+use lib.ListN.{length, take, drop}
+use Rattle.little_endian.specs.Reading.{signed, signeds}
 use Rattle.little_endian.specs.Spelling.{spelledSigneds}
 
 -- the bytes of a cell
@@ -17,6 +17,10 @@ CELL = 8
 unfoldable pub cellsIn : List ℕ → List ℤ
 unfolding signeds
 cellsIn bytes = cond (eqb (length bytes % CELL) 0) (signeds CELL (length bytes / CELL) bytes) []
+
+-- the cell that the eight bytes from byte 8 i on spell
+abbrev pub cellAt : List ℕ → ℕ → ℤ
+cellAt bytes i = signed (take CELL (drop (CELL * i) bytes))
 
 -- the number of cells that n bytes are read as: 0 where a byte is left over or there are more than `most` bytes, and no call takes 0 cells
 unfoldable pub cellCount : ℕ → ℕ → ℕ

@@ -1,10 +1,10 @@
 // Cells as bytes, for hosts in C: eight bytes each, two's complement, least byte first (document 01, Parts of the engine).
 ghost use mathlib.Core.Path.{_≡_};
-ghost use Prim.Native.Nat.{_*_, _≤_};
+ghost use Prim.Native.Nat.{_+_, _*_, _≤_};
 ghost use lib.ListN.{length};
 ghost use Rattle.little_endian.specs.Reading.{signeds, unsigned};
 ghost use Rattle.little_endian.specs.Spelling.{spelled};
-ghost use Rattle.cell_bytes.specs.CellBytes.{CELL, cellCount, decoded, encoded, fitCount};
+ghost use Rattle.cell_bytes.specs.CellBytes.{CELL, cellAt, cellCount, decoded, encoded, fitCount};
 
 // The bytes of a cell.
 pub const CELL: usize = 8;
@@ -55,10 +55,18 @@ fn decode_all(bytes: &[u8], cells: &mut [i64])
 {
     let mut i = 0;
     while i < cells.len() {
-        let at = CELL * i;
-        cells[i] = little_endian::signed_of_word(word(&bytes[at..at + CELL]));
+        cells[i] = cell_at(bytes, i);
         i += 1;
     }
+}
+
+// The cell that the eight bytes from byte 8 i on spell.
+pub fn cell_at(bytes: &[u8], i: usize) -> i64
+    requires { ⌜ CELL * i + CELL ≤ length (now bytes) ⌝ }
+    ensures { λ r. ⌜ r ≡ cellAt (now (bytes .entry)) i ⌝ }
+{
+    let at = CELL * i;
+    little_endian::signed_of_word(word(&bytes[at..at + CELL]))
 }
 
 // The number that the eight bytes of a cell spell, from the most significant one on.

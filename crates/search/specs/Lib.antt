@@ -1,0 +1,4 @@
+pub mod Search
+pub mod SearchTests
+pub mod SearchAnswers
+pub mod Inner
