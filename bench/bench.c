@@ -499,6 +499,172 @@ static void time_fetches(void)
     }
 }
 
+/* The search of a list of powers. Each call takes the next of a few lists, so that none is learnt by heart. */
+
+enum { LINES = LARGEST / 2 + 1, MIDDLE = LARGEST / 4, LISTS = 4 };
+enum { NONE = LINES };                          /* the distance where no line is to be found */
+enum powers { RANDOM, RISING };
+static const int64_t LEVEL = INT64_C(3) << 29;  /* some 20 of LINES random powers reach it */
+
+static uint8_t power_bytes[LISTS][CELL * LINES];
+static int64_t power_cells[LISTS][LINES];
+static size_t at_list, low_line, high_line, chosen_line;
+
+static size_t next_list(void)
+{
+    return at_list = (at_list + 1) % LISTS;
+}
+
+static void archive_strongest(void)
+{
+    answer = hartley_strongest(power_bytes[next_list()], CELL * LINES, low_line, high_line);
+}
+
+static void rule_c_strongest(void)
+{
+    answer = rule_strongest(power_cells[next_list()], LINES, low_line, high_line);
+}
+
+static void scan_c_strongest(void)
+{
+    answer = rule_strongest_scan(power_cells[next_list()], LINES, low_line, high_line);
+}
+
+static void archive_nearest(void)
+{
+    answer = hartley_nearest(power_bytes[next_list()], CELL * LINES, chosen_line, LEVEL);
+}
+
+static void rule_c_nearest(void)
+{
+    answer = rule_nearest(power_cells[next_list()], LINES, chosen_line, LEVEL);
+}
+
+static void scan_c_nearest(void)
+{
+    answer = rule_nearest_scan(power_cells[next_list()], LINES, chosen_line, LEVEL);
+}
+
+/* The doubled power of a random line. */
+static int64_t random_power(void)
+{
+    int64_t x = (int64_t)noise() - 32768, y = (int64_t)noise() - 32768;
+    return x * x + y * y;
+}
+
+/* A random power that reaches the level, or one that does not. */
+static int64_t power_beside(int reaches)
+{
+    int64_t power = random_power();
+    while ((power >= LEVEL) != reaches)
+        power = random_power();
+    return power;
+}
+
+static void set_power(size_t list, size_t line, int64_t power)
+{
+    power_cells[list][line] = power;
+    put_cell(power_bytes[list] + CELL * line, power);
+}
+
+/* Lists for the strongest line. In rising ones each line is stronger than all before it. */
+static void set_band(enum powers powers, size_t low, size_t high)
+{
+    low_line = low;
+    high_line = high;
+    for (size_t i = 0; i < LISTS; i++)
+        for (size_t v = 0; v < LINES; v++)
+            set_power(i, v, powers == RISING && v > 0 ? power_cells[i][v - 1] + 1 + noise() : random_power());
+}
+
+/* Lists for the nearest line, which is at the distance given, below the chosen one where there is room: no nearer line
+   reaches the level, and farther ones are random. Answers what is to be found. */
+static uint64_t set_hit(size_t chosen, size_t distance)
+{
+    const size_t hit = chosen >= distance ? chosen - distance : chosen + distance;
+    chosen_line = chosen;
+    for (size_t i = 0; i < LISTS; i++)
+        for (size_t v = 0; v < LINES; v++) {
+            size_t away = v < chosen ? chosen - v : v - chosen;
+            set_power(i, v, away > distance ? random_power() : power_beside(v == hit));
+        }
+    return distance == NONE ? 0 : (uint64_t)hit << 16 | 256;
+}
+
+/* What all contenders answer of one list. */
+static uint64_t same_answer(const struct contender *list, size_t before)
+{
+    uint64_t first = 0;
+    for (int i = 0; i < 4; i++) {
+        at_list = before;
+        list[i].call();
+        if (i == 0)
+            first = answer;
+        if (answer != first || answer % 256 != 0)
+            fail("the archive's search and the one in C differ");
+    }
+    return first;
+}
+
+/* The last columns of a row whose first two are printed. */
+static void time_search(struct contender *list)
+{
+    measure(list, 4);
+    print_times(list, 4, 1);
+    printf(" %.2f | %.2f |", list[2].ratio, list[3].ratio);
+    print_end(list, 4, 0);
+}
+
+static void time_strongest(enum powers powers, size_t low, size_t high)
+{
+    struct contender list[4] = {
+        {.call = archive_strongest},
+        {.call = archive_strongest},
+        {.call = rule_c_strongest},
+        {.call = scan_c_strongest},
+    };
+    set_band(powers, low, high);
+    for (size_t i = 0; i < LISTS; i++)
+        same_answer(list, i);
+    printf("| strongest, %zu to %zu | %s |", low, high, powers == RISING ? "rising" : "random");
+    time_search(list);
+}
+
+static void time_nearest(size_t chosen, size_t distance)
+{
+    struct contender list[4] = {
+        {.call = archive_nearest},
+        {.call = archive_nearest},
+        {.call = rule_c_nearest},
+        {.call = scan_c_nearest},
+    };
+    const uint64_t hit = set_hit(chosen, distance);
+    for (size_t i = 0; i < LISTS; i++)
+        if (same_answer(list, i) != hit)
+            fail("another line is the nearest");
+    if (distance == NONE)
+        printf("| nearest to %zu | none |", chosen);
+    else
+        printf("| nearest to %zu | at distance %zu |", chosen, distance);
+    time_search(list);
+}
+
+/* The strongest line of the whole list and of 17 lines; the nearest to the middle and to line 0. */
+static void time_searches(void)
+{
+    static const size_t distances[] = {0, 16, 256, NONE};
+    printf("\nSearch of 513 powers, ns per call (best / median); scan is a plain one in C, line by line:\n");
+    print_head(" search | powers | archive | C | scan | archive/C | archive/scan | A/A | spread | growth |");
+    for (enum powers powers = RANDOM; powers <= RISING; powers++) {
+        time_strongest(powers, 0, LINES - 1);
+        time_strongest(powers, MIDDLE - 8, MIDDLE + 8);
+    }
+    for (size_t i = 0; i < 4; i++)
+        time_nearest(MIDDLE, distances[i]);
+    for (size_t i = 0; i < 4; i++)
+        time_nearest(0, distances[i]);
+}
+
 /* Listings */
 
 static char trace_path[4096], text_path[2][4096];
@@ -606,6 +772,7 @@ int main(int count, char **words)
     time_checks();
     time_fetches();
     time_listings();
+    time_searches();    /* last, so that the random inputs of the others stay those of earlier runs */
     printf("\nA/A, the same contender timed twice, was from %.2f to %.2f in this run.\n", lowest, highest);
     return 0;
 }

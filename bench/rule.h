@@ -1,6 +1,6 @@
 /*
- * The level rule and the trace check in C, written from the project's papers and not from the engine, which is measured
- * against them. Answers are packed as in hartley.h, so that both can be compared.
+ * The level rule, the search of powers and the trace check in C, written from the project's papers and not from the
+ * engine, which is measured against them. Answers are packed as in hartley.h, so that both can be compared.
  */
 #ifndef RULE_H
 #define RULE_H
@@ -20,6 +20,13 @@ uint64_t rule_backward(int64_t *cells, size_t n);
 uint64_t rule_power(const int64_t *spectrum, size_t n, int64_t *powers, size_t lines);
 uint64_t rule_parts(const int64_t *spectrum, size_t n, int64_t *real, int64_t *imaginary, size_t lines);
 uint64_t rule_scaled(const int64_t *spectrum, size_t n, size_t line, double *real, double *imaginary);
+
+/* The search of a list of so many powers. Strongest takes four lines at a time, nearest looks outwards from the chosen
+   line. The scans find the same: they go through the band or the list line by line and keep the best. */
+uint64_t rule_strongest(const int64_t *powers, size_t lines, size_t low, size_t high);
+uint64_t rule_strongest_scan(const int64_t *powers, size_t lines, size_t low, size_t high);
+uint64_t rule_nearest(const int64_t *powers, size_t lines, size_t chosen, int64_t level);
+uint64_t rule_nearest_scan(const int64_t *powers, size_t lines, size_t chosen, int64_t level);
 
 /* A fetch fills n cells with the samples of block k. */
 uint64_t rule_check(const uint8_t *trace, size_t bytes);

@@ -1,7 +1,8 @@
 /*
  * How a host in C uses the spectrum engine and the trace reader. Start with mean_frequency, the first use below, from
- * end to end. After it each entry is called on tables of cases; its answer, and the cells and scaled lines of the
- * blocks worked by hand, are shown and compared. Ends with "demo: ok", or with what went wrong and exit status 1.
+ * end to end; nearest_frequency is another. After them each entry is called on tables of cases; its answer, and the
+ * cells and scaled lines of the blocks worked by hand, are shown and compared. Ends with "demo: ok", or with what went
+ * wrong and exit status 1.
  */
 #include "hartley.h"
 
@@ -30,23 +31,27 @@ static int refused(const char *call, uint64_t answer)
     return 1;
 }
 
-/* The strongest line of block k, of n samples, or 0 where a call refuses. Line 0, the sum, is left out. */
-static size_t strongest_line(const uint8_t *trace, size_t trace_bytes, size_t k, size_t n)
+/* Fills n/2 + 1 powers, those of block k, of n samples. Answers whether no call has refused. */
+static int powers_of(const uint8_t *trace, size_t trace_bytes, size_t k, size_t n, int64_t *powers)
 {
-    int64_t cells[HARTLEY_LARGEST_BLOCK], powers[HARTLEY_LARGEST_BLOCK / 2 + 1];
+    int64_t cells[HARTLEY_LARGEST_BLOCK];
     size_t cells_bytes = n * HARTLEY_CELL_BYTES, powers_bytes = (n / 2 + 1) * HARTLEY_CELL_BYTES;
     if (refused("fetch", hartley_fetch(trace, trace_bytes, k, (uint8_t *)cells, cells_bytes)))
         return 0;
     /* the spectrum takes the place of the samples */
     if (refused("forward", hartley_forward((uint8_t *)cells, cells_bytes)))
         return 0;
-    if (refused("power", hartley_power((uint8_t *)cells, cells_bytes, (uint8_t *)powers, powers_bytes)))
+    return !refused("power", hartley_power((uint8_t *)cells, cells_bytes, (uint8_t *)powers, powers_bytes));
+}
+
+/* The strongest line of block k, of n samples, or 0 where a call refuses. Line 0, the sum, is left out. */
+static size_t strongest_line(const uint8_t *trace, size_t trace_bytes, size_t k, size_t n)
+{
+    int64_t powers[HARTLEY_LARGEST_BLOCK / 2 + 1];
+    if (!powers_of(trace, trace_bytes, k, n, powers))
         return 0;
-    size_t strongest = 1;
-    for (size_t v = 2; v <= n / 2; v++)
-        if (powers[v] > powers[strongest])
-            strongest = v;
-    return strongest;
+    uint64_t answer = hartley_strongest((uint8_t *)powers, (n / 2 + 1) * HARTLEY_CELL_BYTES, 1, n / 2);
+    return refused("strongest", answer) ? 0 : hartley_line(answer);
 }
 
 /* Shows the strongest line of each block of a trace. Answers the mean of their frequencies, or -1 if there is none. */
@@ -72,6 +77,31 @@ static double mean_frequency(const uint8_t *trace, size_t trace_bytes)
     return blocks > 0 ? sum / (double)blocks : -1;
 }
 
+/* The frequency nearest to the one given at which block k of a trace has this doubled power or more. Shows its line.
+   Answers -1 if there is none. */
+static double nearest_frequency(const uint8_t *trace, size_t trace_bytes, size_t k, double hertz, int64_t power)
+{
+    int64_t powers[HARTLEY_LARGEST_BLOCK / 2 + 1];
+    uint64_t checked = hartley_check(trace, trace_bytes);
+    if (refused("check", checked))
+        return -1;
+    size_t n = (size_t)1 << hartley_p(checked);
+    if (!powers_of(trace, trace_bytes, k, n, powers))
+        return -1;
+    double step = (double)hartley_rate(checked) / (double)n; /* hertz from line to line */
+    size_t chosen = (size_t)(hertz / step + 0.5);
+    uint64_t answer = hartley_nearest((uint8_t *)powers, (n / 2 + 1) * HARTLEY_CELL_BYTES, chosen, power);
+    if (refused("nearest", answer))
+        return -1;
+    if (!hartley_found(answer)) {
+        printf("block %zu: no line of power %" PRId64 "\n", k, power);
+        return -1;
+    }
+    double nearest = (double)hartley_line(answer) * step;
+    printf("block %zu: line %" PRIu64 ", %g hertz, is nearest to %g hertz\n", k, hartley_line(answer), nearest, hertz);
+    return nearest;
+}
+
 /* From here on: the tables of cases, and the functions that show them. */
 
 #define COUNT(rows) (sizeof(rows) / sizeof(rows)[0])
@@ -79,6 +109,8 @@ static double mean_frequency(const uint8_t *trace, size_t trace_bytes)
 #define LENT 1e300
 /* What is left of 2^64 - 1 where it is the place of a refusal, which has seven bytes in an answer. */
 #define PLACE_MAX (UINT64_MAX >> 8)
+/* Stands for the line where none is found. */
+#define NONE UINT64_MAX
 
 enum { CELL = HARTLEY_CELL_BYTES, LOUDEST = 1 << 28, TRACE = 32, THREE = 69 };
 enum entry { FORWARD, BACKWARD, PARTS, POWER };
@@ -167,6 +199,60 @@ static const struct line_bound {
     {"scaled, line 512 of 1024 cells", 1024 * CELL, 512, 0, 1, 0, HARTLEY_LAST},
     {"scaled, line 513 of 1024 cells", 1024 * CELL, 513, 0, 1, HARTLEY_LINE, 513},
     {"scaled, line 2^64 - 1", 1024 * CELL, SIZE_MAX, 0, 1, HARTLEY_LINE, PLACE_MAX},
+};
+
+/* Searches for the strongest line of such lists, of powers: the refusal and its place, or 0 and the line. */
+static const struct band {
+    const char *what;
+    size_t bytes, low, high, at;
+    int64_t cell;
+    uint64_t number, place_or_line;
+} bands[] = {
+    {"strongest, lines 0 to 4 of 5", 5 * CELL, 0, 4, 0, 1, 0, 4},
+    {"strongest, lines 1 to 3 of 5", 5 * CELL, 1, 3, 0, 9, 0, 3},
+    {"strongest, line 2 alone", 5 * CELL, 2, 2, 0, 9, 0, 2},
+    {"strongest, lines 1 and 4 of one power", 5 * CELL, 0, 4, 1, 5, 0, 1},
+    {"strongest, power 0 is -2^63", 2 * CELL, 0, 0, 0, INT64_MIN, 0, 0},
+    {"strongest, lines 0 to 512, power 0 is 2^63 - 1", 513 * CELL, 0, 512, 0, INT64_MAX, 0, 0},
+    {"strongest, lines 0 to 512, power 300 is -1", 513 * CELL, 0, 512, 300, -1, 0, 512},
+    {"strongest, 0 powers", 0, 0, 0, 0, 1, HARTLEY_LENGTH, 0},
+    {"strongest, 1 power", CELL, 0, 0, 0, 1, HARTLEY_LENGTH, 0},
+    {"strongest, lines 9 to 8 of 4", 4 * CELL, 9, 8, 0, 1, HARTLEY_LENGTH, 0},
+    {"strongest, 5 powers and a byte", 5 * CELL + 1, 0, 4, 0, 1, HARTLEY_LENGTH, 0},
+    {"strongest, 512 powers", 512 * CELL, 0, 4, 0, 1, HARTLEY_LENGTH, 0},
+    {"strongest, 1025 powers", 1025 * CELL, 0, 4, 0, 1, HARTLEY_LENGTH, 0},
+    {"strongest, lines 5 to 6 of 5", 5 * CELL, 5, 6, 0, 1, HARTLEY_LINE, 5},
+    {"strongest, lines 5 to 2 of 5", 5 * CELL, 5, 2, 0, 1, HARTLEY_LINE, 5},
+    {"strongest, lines 4 to 5 of 5", 5 * CELL, 4, 5, 0, 1, HARTLEY_LINE, 5},
+    {"strongest, lines 3 to 2 of 5", 5 * CELL, 3, 2, 0, 1, HARTLEY_LINE, 3},
+    {"strongest, lines 0 to 2^64 - 1", 513 * CELL, 0, SIZE_MAX, 0, 1, HARTLEY_LINE, PLACE_MAX},
+};
+
+/* Searches for the nearest line of such lists: the refusal and its place, or 0 and the line, or NONE. */
+static const struct choice {
+    const char *what;
+    size_t bytes, chosen;
+    int64_t level;
+    size_t at;
+    int64_t cell;
+    uint64_t number, place_or_line;
+} choices[] = {
+    {"nearest to line 2, level 3", 5 * CELL, 2, 3, 0, 1, 0, 2},
+    {"nearest to line 2, level 5", 5 * CELL, 2, 5, 0, 1, 0, 4},
+    {"nearest to line 2, level 5, power 0 is 5", 5 * CELL, 2, 5, 0, 5, 0, 0},
+    {"nearest to line 3, level 5, power 0 is 5", 5 * CELL, 3, 5, 0, 5, 0, 4},
+    {"nearest to line 4, level 6, power 0 is 6", 5 * CELL, 4, 6, 0, 6, 0, 0},
+    {"nearest to line 2, level 6", 5 * CELL, 2, 6, 0, 1, 0, NONE},
+    {"nearest to line 1, level -2^63, power 1 is -2^63", 2 * CELL, 1, INT64_MIN, 1, INT64_MIN, 0, 1},
+    {"nearest to line 512, level 2^63 - 1, power 0 is 2^63 - 1", 513 * CELL, 512, INT64_MAX, 0, INT64_MAX, 0, 0},
+    {"nearest to line 0, level 513", 513 * CELL, 0, 513, 0, 1, 0, 512},
+    {"nearest to line 256, level 514", 513 * CELL, 256, 514, 0, 1, 0, NONE},
+    {"nearest, 0 powers", 0, 0, 1, 0, 1, HARTLEY_LENGTH, 0},
+    {"nearest, 5 powers less a byte", 5 * CELL - 1, 0, 1, 0, 1, HARTLEY_LENGTH, 0},
+    {"nearest, 1025 powers", 1025 * CELL, 0, 1, 0, 1, HARTLEY_LENGTH, 0},
+    {"nearest to line 9 of 4", 4 * CELL, 9, 1, 0, 1, HARTLEY_LENGTH, 0},
+    {"nearest to line 5 of 5", 5 * CELL, 5, 1, 0, 1, HARTLEY_LINE, 5},
+    {"nearest to line 2^64 - 1, level 514", 513 * CELL, SIZE_MAX, 514, 0, 1, HARTLEY_LINE, PLACE_MAX},
 };
 
 /* A whole trace, and after it one byte for the trace that has a byte after its end. */
@@ -401,6 +487,37 @@ static void show_line_bound(const struct line_bound *row)
     take_back(cells, 1);
 }
 
+/* Shows what a search answers, and compares it. */
+static void expect_line(const char *what, uint64_t answer, uint64_t number, uint64_t place_or_line)
+{
+    const uint64_t found = place_or_line != NONE;
+    expect(what, answer, number, place_or_line);
+    if (number != 0)
+        return;
+    if (hartley_found(answer))
+        printf("  line %" PRIu64 "\n", hartley_line(answer));
+    else
+        printf("  none\n");
+    if (hartley_found(answer) != found || hartley_line(answer) != (found ? place_or_line : 0))
+        fail("another line was expected");
+}
+
+static void show_band(const struct band *row)
+{
+    struct lent powers = lend(new_block(row->bytes, row->at, row->cell), row->bytes);
+    uint64_t answer = hartley_strongest(powers.list, powers.bytes, row->low, row->high);
+    expect_line(row->what, answer, row->number, row->place_or_line);
+    take_back(powers, 1);
+}
+
+static void show_choice(const struct choice *row)
+{
+    struct lent powers = lend(new_block(row->bytes, row->at, row->cell), row->bytes);
+    uint64_t answer = hartley_nearest(powers.list, powers.bytes, row->chosen, row->level);
+    expect_line(row->what, answer, row->number, row->place_or_line);
+    take_back(powers, 1);
+}
+
 /* The check of a trace that is lent as a list of exactly its bytes. */
 static uint64_t check_of(const uint8_t *trace, size_t bytes)
 {
@@ -463,25 +580,35 @@ static void show_fetch(const struct fetched *row)
     take_back(cells, row->number != 0);
 }
 
-/* The use from end to end, of the trace and of the trace without its last byte. */
-static void show_use(void)
+/* The uses from end to end, of the trace and of the trace without its last byte; and of a power that no line has. */
+static void show_uses(void)
 {
     if (mean_frequency(biscuit, sizeof biscuit) != 1500)
         fail("another frequency was expected");
     if (mean_frequency(biscuit, sizeof biscuit - 1) != -1)
         fail("a refusal was expected");
+    if (nearest_frequency(biscuit, sizeof biscuit, 0, 2000, 100000) != 1000)
+        fail("another frequency was expected");
+    if (nearest_frequency(biscuit, sizeof biscuit, 1, 2000, 100000) != 2000)
+        fail("another frequency was expected");
+    if (nearest_frequency(biscuit, sizeof biscuit, 0, 2000, 1000000) != -1)
+        fail("no frequency was expected");
 }
 
 int main(void)
 {
     static const uint8_t zeros[HARTLEY_LONGEST_TRACE + 1];
-    show_use();
+    show_uses();
     for (size_t i = 0; i < COUNT(worked); i++)
         show_worked(&worked[i]);
     for (size_t i = 0; i < COUNT(bounds); i++)
         show_bound(&bounds[i]);
     for (size_t i = 0; i < COUNT(line_bounds); i++)
         show_line_bound(&line_bounds[i]);
+    for (size_t i = 0; i < COUNT(bands); i++)
+        show_band(&bands[i]);
+    for (size_t i = 0; i < COUNT(choices); i++)
+        show_choice(&choices[i]);
     show_whole();
     for (size_t i = 0; i < COUNT(faults); i++)
         show_fault(&faults[i]);

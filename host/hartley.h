@@ -13,7 +13,7 @@
  * refuses, all that is lent is as it was.
  *
  * Answers: each is one number, and hartley_number reads from it whether the call has refused. Test hartley_number and
- * not the answer: an accepted check, fetch or scaled line is not 0.
+ * not the answer: an accepted check, fetch or scaled line is not 0, nor is a line that was found.
  *
  * Threads: calls are safe from several threads at once. Until a call has answered, no other thread touches what it is
  * lent to write, or writes what it is lent to read.
@@ -21,7 +21,8 @@
  * Stack: no call takes more than HARTLEY_STACK_BYTES. This is measured and not proved.
  *
  * Version: header and archive may be of different days, so a host compares hartley_version() with HARTLEY_VERSION at
- * its start. docs/CHANGES.md says what has changed.
+ * its start. docs/CHANGES.md says what has changed. Version 2 has two calls more, hartley_strongest and
+ * hartley_nearest, and two that read their answers, hartley_found and hartley_line; all of version 1 is as it was.
  */
 #ifndef HARTLEY_H
 #define HARTLEY_H
@@ -30,7 +31,7 @@
 #include <stdint.h>
 
 /* Counts one up with every change to a signature, an answer or a refusal. */
-#define HARTLEY_VERSION 1
+#define HARTLEY_VERSION 2
 /* The bytes of a cell. */
 #define HARTLEY_CELL_BYTES 8
 /* The largest block, in cells. Parts and powers have HARTLEY_LARGEST_BLOCK / 2 + 1 at most. */
@@ -46,19 +47,20 @@ extern "C" {
 #endif
 
 /*
- * Refused input. Block calls test 1, 2, 3 and 4 in turn. A trace is tested for 10; then each record for 11 (six bytes),
- * 12, 13, 14, 11 (payload), 15; the first fault found decides. A byte after the end is looked for last, once the end's
- * own length has passed 14. A fetch then tests 16, then 2.
+ * Refused input. Block calls, and the searches strongest and nearest, test 1, 2, 3 and 4 in turn. A trace is tested for
+ * 10; then each record for 11 (six bytes), 12, 13, 14, 11 (payload), 15; the first fault found decides. A byte after
+ * the end is looked for last, once the end's own length has passed 14. A fetch then tests 16, then 2.
  */
 enum hartley_refusal {
     HARTLEY_OK = 0,      /* nothing is refused */
-    HARTLEY_LENGTH = 1,  /* block is not 2 to 1,024 cells and a power of two, or its count of bytes is no multiple of
-                            eight; place 0 */
+    HARTLEY_LENGTH = 1,  /* block is not 2 to 1,024 cells and a power of two, or a list that is searched is not N/2 + 1
+                            cells for such an N, or its count of bytes is no multiple of eight; place 0 */
     HARTLEY_MISFIT = 2,  /* a lent output not N cells (fetch) or N/2 + 1 (parts, power), or its count of bytes is no
                             multiple of eight; place 0 */
     HARTLEY_LOUD = 3,    /* forward: a cell outside -32,768 to 32,767; any call that takes a spectrum: outside +-2^28;
                             place the first such cell */
-    HARTLEY_LINE = 4,    /* scaled line above N/2; place that line */
+    HARTLEY_LINE = 4,    /* a line above N/2: that of scaled, the chosen one of nearest, low of strongest, or else high;
+                            place that line; then low of strongest above high; place low */
     HARTLEY_LONG = 10,   /* trace above 65,536 bytes; place 0 */
     HARTLEY_CUT = 11,    /* fewer than 6 bytes left before the end is read, or payload incomplete;
                             place the record's first byte */
@@ -102,6 +104,16 @@ uint64_t hartley_power(const uint8_t *spectrum, size_t spectrum_bytes, uint8_t *
    a refusal: 1, 3 or 4. */
 uint64_t hartley_scaled(const uint8_t *spectrum, size_t spectrum_bytes, size_t line, double *real, double *imaginary);
 
+/* The strongest line from low to high, both included, of a list of N/2 + 1 powers, as hartley_power leaves it: the line
+   of greatest power, the lowest of equals. Powers are compared as they stand, also where they are negative. Answers the
+   line, or a refusal: 1 or 4. */
+uint64_t hartley_strongest(const uint8_t *powers, size_t powers_bytes, size_t low, size_t high);
+
+/* Of the lines of such a list whose power is the level or more, the one nearest to a chosen line, the lower of two
+   equally near. The chosen line may itself be the nearest. Answers the line; or none, where no line of the list reaches
+   the level, and only there; or a refusal: 1 or 4. */
+uint64_t hartley_nearest(const uint8_t *powers, size_t powers_bytes, size_t chosen, int64_t level);
+
 /* The check of a trace. Answers rate, P and the number of blocks, or a refusal: 10 to 15. */
 uint64_t hartley_check(const uint8_t *trace, size_t trace_bytes);
 
@@ -116,6 +128,8 @@ uint64_t hartley_fetch(const uint8_t *trace, size_t trace_bytes, size_t k, uint8
  *     the answer of                            byte 0    byte 1    bytes 2, 3    bytes 4 to 7
  *     forward, backward, parts, power, done    0         0         0             0
  *     scaled, done                             0         case      0             0
+ *     strongest, nearest, a line found         0         1         line          0
+ *     nearest, none found                      0         0         0             0
  *     check, fetch, done                       0         P         blocks        rate
  *     any call that refuses                    number    place, in seven bytes
  */
@@ -126,16 +140,25 @@ uint64_t hartley_number(uint64_t answer);
 /* Of a refusal, bytes 1 to 7: its place, a cell of the block, a byte of the trace, or the line or block asked for. Of
    the place of 4 and 16, which the host gave itself, the highest of eight bytes is left off where it is not 0. Every
    other place is whole. Of an answer that refuses nothing this is no place: it is 0, or the case of a scaled line, or
-   P, blocks and rate in one number. */
+   1 and the line found in one number, or P, blocks and rate in one number. */
 uint64_t hartley_place(uint64_t answer);
 
 /* Of an accepted scaled line, byte 1: HARTLEY_MEAN, HARTLEY_LAST or HARTLEY_PAIR. Of a refusal this is the least byte
-   of its place, of an accepted trace P, of any other call that is done 0. */
+   of its place, of an accepted trace P, of a line found 1, of any other call that is done 0. */
 uint64_t hartley_case(uint64_t answer);
 
+/* Of an accepted search, as strongest and nearest answer it: whether a line was found, byte 1, which is 1 if so and 0
+   if not; and the line that was found, bytes 2 and 3. Where none was found hartley_line is 0, which is a line too: ask
+   hartley_found. The strongest line is always found. Of a refusal these are bytes of its place. Of an accepted trace
+   they are P and the number of blocks. Of any other call that is done they are 0, but hartley_found of a scaled line is
+   its case. */
+uint64_t hartley_found(uint64_t answer);
+uint64_t hartley_line(uint64_t answer);
+
 /* Of an accepted trace, as check and fetch answer it: the rate in samples a second, bytes 4 to 7; P, byte 1, a block
-   having N = 2^P cells; and the number of blocks, bytes 2 and 3. Of a refusal these are bytes of its place. Of any
-   other call that is done they are 0, but hartley_p of a scaled line is its case. */
+   having N = 2^P cells; and the number of blocks, bytes 2 and 3. Of a refusal these are bytes of its place. Of a line
+   found hartley_p is 1 and hartley_blocks is the line. Of any other call that is done they are 0, but hartley_p of a
+   scaled line is its case. */
 uint64_t hartley_rate(uint64_t answer);
 uint64_t hartley_p(uint64_t answer);
 uint64_t hartley_blocks(uint64_t answer);

@@ -26,10 +26,14 @@ enum { CELL = HARTLEY_CELL_BYTES, LARGEST = HARTLEY_LARGEST_BLOCK, LOUDEST = 1 <
 enum { STACK = 4 * HARTLEY_STACK_BYTES, GUARD = 1 << 20, PAINT = 0xa5 };
 enum { THREADS = 4, ROUNDS = 200, BLOCKS_TRIED = 50 };
 
-enum entry { FORWARD, BACKWARD, PARTS, POWER, SCALED, CHECK, FETCH, NUMBER, PLACE, CASE, RATE, P, BLOCKS, VERSION };
+/* Those up to FETCH can refuse. */
+enum entry {
+    FORWARD, BACKWARD, PARTS, POWER, SCALED, STRONGEST, NEAREST, CHECK, FETCH,
+    NUMBER, PLACE, CASE, FOUND, LINE, RATE, P, BLOCKS, VERSION
+};
 static const char *const names[] = {
-    "forward", "backward", "parts", "power", "scaled", "check", "fetch",
-    "number", "place", "case", "rate", "p", "blocks", "version"
+    "forward", "backward", "parts", "power", "scaled", "strongest", "nearest", "check", "fetch",
+    "number", "place", "case", "found", "line", "rate", "p", "blocks", "version"
 };
 
 static struct trace { uint8_t *bytes; size_t count; uint64_t sum; } *traces;
@@ -59,8 +63,14 @@ static ucontext_t here, on_stack;
 static size_t most[COUNT(names)];           /* what each entry took at most */
 static int met[FETCH + 1][2];               /* whether each that can refuse has accepted, and has refused */
 
-/* What the next call is lent: the cells or the trace, outputs of one size, and the line or the block asked for. */
-static struct { enum entry entry; size_t cells_bytes, output_bytes, index; struct trace trace; } lent;
+/* What the next call is lent: the cells or the trace, outputs of one size, the line, the band's ends or the block asked
+   for, and the level. */
+static struct {
+    enum entry entry;
+    size_t cells_bytes, output_bytes, index, high;
+    int64_t level;
+    struct trace trace;
+} lent;
 static int64_t cells[2 * LARGEST], first[LARGEST], second[LARGEST];
 static double real, imaginary;
 static uint64_t answer;
@@ -80,6 +90,10 @@ static uint64_t called(void)
         return hartley_power(given, given_bytes, one, bytes);
     case SCALED:
         return hartley_scaled(given, given_bytes, lent.index, &real, &imaginary);
+    case STRONGEST:
+        return hartley_strongest(given, given_bytes, lent.index, lent.high);
+    case NEAREST:
+        return hartley_nearest(given, given_bytes, lent.index, lent.level);
     case CHECK:
         return hartley_check(lent.trace.bytes, lent.trace.count);
     case FETCH:
@@ -90,6 +104,10 @@ static uint64_t called(void)
         return hartley_place(answer);
     case CASE:
         return hartley_case(answer);
+    case FOUND:
+        return hartley_found(answer);
+    case LINE:
+        return hartley_line(answer);
     case RATE:
         return hartley_rate(answer);
     case P:
@@ -161,6 +179,40 @@ static void measure_blocks(void)
         measure_block(no_block[i], 1, LARGEST, (LARGEST / 2 + 1) * CELL);
 }
 
+/* The searches of a list of so many bytes, of powers 1, 2, 3 and so on: with lines that it has and lines that it has
+   not, in every order, and levels that all lines reach, or the last alone, or none. */
+static void measure_list(size_t bytes)
+{
+    const size_t count = bytes / CELL, lines[] = {0, count / 2, count - 1, count, SIZE_MAX};
+    const int64_t levels[] = {INT64_MIN, (int64_t)count, INT64_MAX};
+    lent.cells_bytes = bytes;
+    for (size_t v = 0; v < count; v++)
+        cells[v] = (int64_t)v + 1;
+    for (size_t i = 0; i < COUNT(lines); i++) {
+        lent.index = lines[i];
+        for (size_t j = 0; j < COUNT(lines); j++) {
+            lent.high = lines[j];
+            measure(STRONGEST);
+        }
+        for (size_t j = 0; j < COUNT(levels); j++) {
+            lent.level = levels[j];
+            measure(NEAREST);
+        }
+    }
+}
+
+/* Lists for every P, with a byte more, and of no P. */
+static void measure_lists(void)
+{
+    static const size_t no_list[] = {0, CELL, 4 * CELL, LARGEST * CELL, (LARGEST + 1) * CELL};
+    for (size_t n = 2; n <= LARGEST; n *= 2) {
+        measure_list((n / 2 + 1) * CELL);
+        measure_list((n / 2 + 1) * CELL + 1);
+    }
+    for (size_t i = 0; i < COUNT(no_list); i++)
+        measure_list(no_list[i]);
+}
+
 /* A trace: the check; and its first, last and absent block, with cells that fit and cells that do not. */
 static void measure_trace(const struct trace *trace)
 {
@@ -184,6 +236,7 @@ static void measure_all(void)
         fail("no memory", "stack");
     stack = room + GUARD;
     measure_blocks();
+    measure_lists();
     for (size_t i = 0; i < trace_count; i++)
         measure_trace(&traces[i]);
     for (enum entry entry = NUMBER; entry <= VERSION; entry++)
@@ -209,7 +262,7 @@ static uint64_t with_cells(uint64_t sum, const int64_t *list, size_t count)
     return sum;
 }
 
-/* A sum over all that check, fetch, forward and power answer and leave, for some blocks of a trace. */
+/* A sum over all that check, fetch, forward, power and the searches answer and leave, for some blocks of a trace. */
 static uint64_t sum_of(const struct trace *trace)
 {
     int64_t block[LARGEST], powers[LARGEST / 2 + 1];
@@ -224,6 +277,8 @@ static uint64_t sum_of(const struct trace *trace)
         sum = with_cells(sum, block, n);
         sum = 31 * sum + hartley_power((uint8_t *)block, n * CELL, (uint8_t *)powers, lines * CELL);
         sum = with_cells(sum, powers, lines);
+        sum = 31 * sum + hartley_strongest((uint8_t *)powers, lines * CELL, 1, n / 2);
+        sum = 31 * sum + hartley_nearest((uint8_t *)powers, lines * CELL, n / 4, powers[n / 2]);
     }
     return sum;
 }

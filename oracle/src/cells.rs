@@ -4,6 +4,7 @@ use crate::blocks::{backward, forward, test_length};
 use crate::fourier::{parts, power};
 use crate::refusal::{refuse_if, Refusal, LENGTH, MISFIT};
 use crate::scaled::{scaled, Scaled};
+use crate::search::{nearest, strongest};
 use crate::trace::{block, contents, test_block, Contents};
 
 /// "a count of bytes that is no multiple of eight is a refusal 1"
@@ -67,6 +68,16 @@ pub fn power_bytes(spectrum: &[u8], lent: &mut [u8]) -> Result<(), Refusal> {
 /// A scaled line of a spectrum on bytes; it has no lent output.
 pub fn scaled_bytes(spectrum: &[u8], line: u64) -> Result<Scaled, Refusal> {
     scaled(&cells_of(spectrum)?, line)
+}
+
+/// The strongest line of a band (document 02, Item 2), the powers being bytes; nothing is lent to be written.
+pub fn strongest_bytes(powers: &[u8], low: u64, high: u64) -> Result<u64, Refusal> {
+    strongest(&cells_of(powers)?, low, high)
+}
+
+/// The nearest line that reaches a level, of powers on bytes.
+pub fn nearest_bytes(powers: &[u8], chosen: u64, level: i64) -> Result<Option<u64>, Refusal> {
+    nearest(&cells_of(powers)?, chosen, level)
 }
 
 /// A fetch into bytes: the trace's own tests, "then tests 16, then 2". It answers what the check does, and "also

@@ -308,6 +308,164 @@ fn refused_lines() {
     }
 }
 
+/// The powers of {0, 1, 0, 0, 0, 0, 0, 0}, whose spectrum is {1, 1, 1, 0, -1, -1, -1, 0}.
+const CRUNCH: [i64; 5] = [2, 1, 2, 1, 2];
+
+#[test]
+fn powers_to_search() {
+    assert_eq!(power(&[1, 1, 1, 0, -1, -1, -1, 0], 5), Ok(CRUNCH.to_vec()));
+    assert_eq!(power(&[36, -14, -8, -6, -4, -2, 0, 6], 5), Ok(vec![2592, 232, 64, 40, 32]));
+}
+
+/// Document 02, Item 2: "the strongest line between two lines, both included".
+#[test]
+fn strongest_lines() {
+    let falling = [200, 16, 8]; // the powers of {1, 2, 3, 4}
+    for (low, high, line) in [(0, 2, 0), (0, 0, 0), (1, 2, 1), (1, 1, 1), (2, 2, 2)] {
+        assert_eq!(strongest(&falling, low, high), Ok(line));
+    }
+    let rising = [32, 40, 64, 232, 2592];
+    for (low, high, line) in [(0, 4, 4), (0, 3, 3), (1, 2, 2), (4, 4, 4), (0, 1, 1)] {
+        assert_eq!(strongest(&rising, low, high), Ok(line));
+    }
+    // "The strongest line is the lowest of equals", and a line outside the band is no equal
+    for (low, high, line) in [(0, 4, 0), (1, 4, 2), (1, 3, 2), (2, 3, 2), (3, 4, 4), (3, 3, 3), (4, 4, 4)] {
+        assert_eq!(strongest(&CRUNCH, low, high), Ok(line));
+    }
+    let side_by_side = [1, 7, 7, 7, 1];
+    for (low, high, line) in [(0, 4, 1), (1, 2, 1), (2, 4, 2), (3, 4, 3), (0, 0, 0), (4, 4, 4)] {
+        assert_eq!(strongest(&side_by_side, low, high), Ok(line));
+    }
+}
+
+#[test]
+fn strongest_of_any_cells() {
+    let (least, most) = (i64::MIN, i64::MAX);
+    assert_eq!(strongest(&[-3, -1, -2], 0, 2), Ok(1));
+    assert_eq!(strongest(&[-3, -1, 0], 0, 1), Ok(1));
+    assert_eq!(strongest(&[-1, 1], 0, 1), Ok(1));
+    assert_eq!(strongest(&[least, most], 0, 1), Ok(1));
+    assert_eq!(strongest(&[least, least, least], 1, 2), Ok(1));
+    assert_eq!(strongest(&[most - 1, least, most, most, 0], 0, 4), Ok(2));
+    assert_eq!(strongest(&[0; 513], 0, 512), Ok(0));
+    assert_eq!(strongest(&[0; 513], 512, 512), Ok(512));
+    let rising: Vec<i64> = (0..513).collect();
+    assert_eq!(strongest(&rising, 0, 512), Ok(512));
+    assert_eq!(strongest(&rising, 17, 400), Ok(400));
+}
+
+/// "the line nearest to a chosen one whose doubled power reaches a given level"
+#[test]
+fn nearest_lines() {
+    let falling = [200, 16, 8]; // the powers of {1, 2, 3, 4}
+    for (chosen, level, line) in [(2, 8, 2), (2, 9, 1), (2, 16, 1), (2, 17, 0), (2, 200, 0), (0, 9, 0), (1, 16, 1)] {
+        assert_eq!(nearest(&falling, chosen, level), Ok(Some(line)));
+    }
+    // "the lower of two equally near"; one step nearer is nearer on either side
+    for (chosen, line) in [(0, 0), (1, 0), (2, 2), (3, 2), (4, 4)] {
+        assert_eq!(nearest(&CRUNCH, chosen, 2), Ok(Some(line)));
+        assert_eq!(nearest(&CRUNCH, chosen, 1), Ok(Some(chosen))); // "the chosen line may itself be the nearest"
+    }
+    for (powers, chosen, line) in [([9, 0, 0, 9, 0], 1, 0), ([9, 0, 0, 9, 0], 2, 3), ([9, 0, 0, 0, 9], 2, 0)] {
+        assert_eq!(nearest(&powers, chosen, 9), Ok(Some(line)));
+    }
+    // a line that is stronger, but farther, is not the nearest
+    assert_eq!(nearest(&[1000, 0, 0, 10, 2000], 2, 10), Ok(Some(3)));
+    // at either end alone, as far away as can be
+    for chosen in 0..5 {
+        assert_eq!(nearest(&[5, 4, 4, 4, 4], chosen, 5), Ok(Some(0)));
+        assert_eq!(nearest(&[4, 4, 4, 4, 5], chosen, 5), Ok(Some(4)));
+    }
+    let mut single = vec![0; 513];
+    single[512] = 1;
+    assert_eq!(nearest(&single, 0, 1), Ok(Some(512)));
+    single.reverse();
+    assert_eq!(nearest(&single, 512, 1), Ok(Some(0)));
+}
+
+/// "When no line in the list reaches the level the answer is none, and only then."
+#[test]
+fn levels() {
+    let (least, most) = (i64::MIN, i64::MAX);
+    for chosen in 0..5 {
+        assert_eq!(nearest(&CRUNCH, chosen, 3), Ok(None));
+        assert_eq!(nearest(&CRUNCH, chosen, most), Ok(None));
+        for level in [1, 0, -1, least] {
+            assert_eq!(nearest(&CRUNCH, chosen, level), Ok(Some(chosen))); // every line reaches it
+        }
+        assert_eq!(nearest(&[least; 5], chosen, least), Ok(Some(chosen)));
+        assert_eq!(nearest(&[least; 5], chosen, least + 1), Ok(None));
+        assert_eq!(nearest(&[most; 5], chosen, most), Ok(Some(chosen)));
+        assert_eq!(nearest(&[most - 1; 5], chosen, most), Ok(None));
+    }
+    assert_eq!(nearest(&[-3, -1, -2], 0, -2), Ok(Some(1)));
+    assert_eq!(nearest(&[-3, -1, -2], 2, -1), Ok(Some(1)));
+    assert_eq!(nearest(&[-3, -1, -2], 2, 0), Ok(None));
+    assert_eq!(nearest(&[-1, 1], 0, 0), Ok(Some(1)));
+    assert_eq!(nearest(&[1, -1], 0, -1), Ok(Some(0)));
+}
+
+/// "1 if the list isn't N/2 + 1 long for a permitted N", before 4.
+#[test]
+fn lengths_of_lists() {
+    let permitted = [2, 3, 5, 9, 17, 33, 65, 129, 257, 513];
+    for count in (0..=1100).chain([2047, 2048, 2049, 65_537]) {
+        let (powers, last) = (vec![7; count], count.max(1) as u64 - 1);
+        if permitted.contains(&count) {
+            assert_eq!(strongest(&powers, last, last), Ok(last));
+            assert_eq!(nearest(&powers, last, 7), Ok(Some(last)));
+            assert_eq!(strongest(&powers, 0, last + 1), refused(4, last + 1));
+            assert_eq!(nearest(&powers, last + 1, 7), refused(4, last + 1));
+            continue;
+        }
+        for line in [0, last, last + 1, u64::MAX] {
+            assert_eq!(strongest(&powers, line, line), refused(1, 0));
+            assert_eq!(nearest(&powers, line, 7), refused(1, 0));
+        }
+        assert_eq!(strongest(&powers, 1, 0), refused(1, 0));
+    }
+}
+
+/// "4 if a given line exceeds N/2 (place the first such line, low end before high) or the band's low end exceeds its
+/// high end (place the low end)".
+#[test]
+fn refused_bands() {
+    let most = u64::MAX;
+    for (low, high, place) in [
+        (5, 4, 5), // the low end alone
+        (most, 0, most),
+        (4, 5, 5), // the high end alone
+        (0, 1 << 32, 1 << 32),
+        (3, most, most),
+        (5, 6, 5), // both
+        (5, 5, 5),
+        (9, 7, 9),
+        (most, most - 1, most),
+        (most - 1, most, most - 1),
+        (1, 0, 1), // turned round
+        (4, 3, 4),
+        (4, 0, 4),
+    ] {
+        assert_eq!(strongest(&CRUNCH, low, high), refused(4, place));
+    }
+    assert_eq!(strongest(&[9, 8], 1, 0), refused(4, 1));
+    assert_eq!(strongest(&[9, 8], 0, 2), refused(4, 2));
+    assert_eq!(strongest(&[0; 513], 512, 511), refused(4, 512));
+    assert_eq!(strongest(&[0; 513], 0, 513), refused(4, 513));
+}
+
+/// 4 for the chosen line, whatever the level; a level is never refused.
+#[test]
+fn refused_chosen_lines() {
+    for line in [5, 6, 8, 512, 513, 1 << 32, (1 << 32) + 1, 1 << 56, 1 << 63, u64::MAX] {
+        for level in [i64::MIN, 0, 2, 3, i64::MAX] {
+            assert_eq!(nearest(&CRUNCH, line, level), refused(4, line));
+        }
+    }
+    assert_eq!(nearest(&[9, 8], 2, 8), refused(4, 2));
+    assert_eq!(nearest(&[0; 513], 513, 0), refused(4, 513));
+}
+
 #[test]
 fn accepted_traces() {
     let held = contents(&SAMPLE_TRACE).unwrap();
@@ -455,6 +613,24 @@ fn refused_parts_and_lines_of_bytes() {
     }
     assert_eq!(scaled_bytes(&quiet, 2), refused(4, 2));
     assert_eq!(scaled_bytes(&quiet, 1), Ok(Scaled::Last(over(2, 2))));
+}
+
+#[test]
+fn searches_of_bytes() {
+    let powers = bytes_of(&CRUNCH);
+    assert_eq!(strongest_bytes(&powers, 1, 4), Ok(2));
+    assert_eq!(nearest_bytes(&powers, 3, 2), Ok(Some(2)));
+    assert_eq!(nearest_bytes(&powers, 3, 3), Ok(None));
+    assert_eq!(strongest_bytes(&powers, 2, 1), refused(4, 2));
+    assert_eq!(nearest_bytes(&powers, u64::MAX, 3), refused(4, u64::MAX));
+    assert_eq!(strongest_bytes(&bytes_of(&[-1, -2]), 0, 1), Ok(0));
+    // a count of bytes that is no multiple of eight, and lists of other lengths: 1 before 4
+    for count in (0..40).filter(|count| *count != 16 && *count != 24) {
+        for line in [0, 1, u64::MAX] {
+            assert_eq!(strongest_bytes(&powers[..count], line, 0), refused(1, 0));
+            assert_eq!(nearest_bytes(&powers[..count], line, 0), refused(1, 0));
+        }
+    }
 }
 
 #[test]

@@ -10,6 +10,7 @@ use lib.Dec.{eqb, leb}
 use lib.IntN.{ℤ, pos}
 use lib.ListN.{length, getD, take, drop}
 use lib.Seq.{ext-getD, getD-take, length-take-le}
+use Rattle.ints.specs.Cells.{cell}
 use Rattle.ints.specs.Tabulate.{tabulate}
 use Rattle.ints.proofs.Filling.{filled-all}
 use Rattle.ints.proofs.Slices.{length-part, part-at}
@@ -17,7 +18,7 @@ use Rattle.ints.proofs.Tables.{getD-tabulate, length-tabulate}
 use Rattle.little_endian.specs.Reading.{Within, signed, signeds}
 use Rattle.little_endian.specs.Spelling.{spelledSigneds}
 use Rattle.little_endian.proofs.Signed.{length-signeds, length-spelled-signeds, signeds-spelled, signeds-tabulated}
-use Rattle.cell_bytes.specs.CellBytes.{CELL, cellCount, cellsIn, cellsRead, decoded, encoded, fitCount}
+use Rattle.cell_bytes.specs.CellBytes.{CELL, cellAt, cellCount, cellsIn, cellsRead, decoded, encoded, fitCount}
 
 -- n cells are read: those that the bytes spell, or none where they are more than the most
 pub data Reads (most : ℕ) (bytes : List ℕ) (n : ℕ) : Type 0 where
@@ -31,6 +32,36 @@ whole-cells bytes e = rw (eq-eqb (length bytes % CELL) 0 e) refl
 pub no-cells : (bytes : List ℕ) → (length bytes % CELL ≡ 0 → ⊥) → cellsIn bytes ≡ []
 unfolding cellsIn
 no-cells bytes h = rw (ne-eqb (length bytes % CELL) 0 h) refl
+
+-- ---- one cell, where its bytes stand
+
+module _ (bytes : List ℕ) where
+  -- the number of cells that all bytes are read as
+  pub count-all : cellCount (length bytes) (length bytes) ≡ length (cellsIn bytes)
+  unfolding cellCount
+  count-all = go (eqb (length bytes % CELL) 0) refl
+    where
+      go : (t : Bool) → eqb (length bytes % CELL) 0 ≡ t → cond (t && leb (length bytes) (length bytes)) (length bytes / CELL) 0 ≡ length (cellsIn bytes)
+      go true e = rw (le-leb (length bytes) (length bytes) (omega arith), whole-cells bytes (eqb-true (length bytes % CELL) 0 e), length-signeds CELL (length bytes / CELL) bytes) refl
+      go false e = rw (no-cells bytes (eqb-false (length bytes % CELL) 0 e)) refl
+
+  module _ (i : ℕ) (h : i < length (cellsIn bytes)) where
+    -- since there is a cell, no byte is left over
+    whole : length bytes % CELL ≡ 0
+    whole = go (eqb (length bytes % CELL) 0) refl
+      where
+        go : (t : Bool) → eqb (length bytes % CELL) 0 ≡ t → length bytes % CELL ≡ 0
+        go true e = eqb-true (length bytes % CELL) 0 e
+        go false e = absurd (omega (arith, ap length (no-cells bytes (eqb-false (length bytes % CELL) 0 e))))
+
+    counted : i < length bytes / CELL
+    counted = omega (arith, ap length (whole-cells bytes whole), length-signeds CELL (length bytes / CELL) bytes)
+
+    pub cell-room : CELL * i + CELL ≤ length bytes
+    cell-room = omega (arith, counted)
+
+    pub cell-spelled : cellAt bytes i ≡ cell (cellsIn bytes) i
+    cell-spelled = sym (ap (λ (xs : List ℤ). cell xs i) (whole-cells bytes whole ∙ sym (signeds-tabulated CELL (length bytes / CELL) bytes)) ∙ getD-tabulate (length bytes / CELL) (cellAt bytes) (pos 0) i counted)
 
 -- ---- an output, which is read as all the cells that it should have or as none
 

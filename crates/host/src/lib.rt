@@ -12,10 +12,12 @@ ghost use Rattle.fourier.specs.Scaled.{Values};
 ghost use Rattle.block_bytes.specs.BytesLeft.{backwardBytes, forwardBytes};
 ghost use Rattle.line_bytes.specs.LinesLeft.{imaginaryBytes, powerBytes, realBytes};
 ghost use Rattle.scaled_bytes.specs.LineHeld.{imaginaryHeld, asLine, realHeld, scaledOf};
+ghost use Rattle.search.specs.SearchAnswers.{nearestAnswer, nearestNumbers, strongestAnswer, strongestNumbers};
+ghost use Rattle.search_bytes.specs.Asked.{endAsked};
 ghost use Rattle.fetch_bytes.specs.Fetched.{fetchBytes, fetchedOf};
 ghost use Rattle.trace.specs.Contents.{contents};
 ghost use Rattle.trace.specs.TraceAnswers.{contentsNumbers, traceAnswer};
-ghost use Rattle.packing.specs.Packing.{blocksIn, caseIn, caseNumbers, numberIn, pIn, packed, packedScaled, packedTrace, placeIn, rateIn, unpackedBlock, unpackedFetch, unpackedScaled, unpackedTrace};
+ghost use Rattle.packing.specs.Packing.{blocksIn, caseIn, caseNumbers, foundIn, lineIn, numberIn, pIn, packed, packedScaled, packedSearch, packedTrace, placeIn, rateIn, unpackedBlock, unpackedFetch, unpackedScaled, unpackedSearch, unpackedTrace};
 ghost use Rattle.host.specs.Version.{VERSION};
 
 // The forward spectrum of the block that the bytes spell, in its place.
@@ -80,6 +82,24 @@ pub extern "C" fn hartley_scaled(
     scaled_bytes::scaled(spectrum, Line(line), real, imaginary)
 }
 
+// The strongest line from low to high of the powers that the bytes spell.
+#[no_mangle]
+pub extern "C" fn hartley_strongest(powers: &[u8], low: usize, high: usize) -> u64
+    ensures answer { λ r. ⌜ r ≡ packedSearch (strongestAnswer (cellsIn (now (powers .entry))) (asLine low) (asLine high)) ⌝ }
+    ensures numbers { λ r. ⌜ unpackedSearch (endAsked (length (cellsIn (now (powers .entry)))) low high) r ≡ strongestNumbers (cellsIn (now (powers .entry))) low high ⌝ }
+{
+    packing::packed_search(search_bytes::strongest(powers, Line(low), Line(high)))
+}
+
+// The line nearest to the chosen one that reaches the level, of the powers that the bytes spell; or none.
+#[no_mangle]
+pub extern "C" fn hartley_nearest(powers: &[u8], chosen: usize, level: i64) -> u64
+    ensures answer { λ r. ⌜ r ≡ packedSearch (nearestAnswer (cellsIn (now (powers .entry))) (asLine chosen) level) ⌝ }
+    ensures numbers { λ r. ⌜ unpackedSearch chosen r ≡ nearestNumbers (cellsIn (now (powers .entry))) chosen level ⌝ }
+{
+    packing::packed_search(search_bytes::nearest(powers, Line(chosen), level))
+}
+
 // The check of a trace.
 #[no_mangle]
 pub extern "C" fn hartley_check(trace: &[u8]) -> u64
@@ -123,6 +143,22 @@ pub extern "C" fn hartley_case(answer: u64) -> u64
     answer / 256 % 256
 }
 
+// Whether a search has found a line, 1 or 0, in its answer.
+#[no_mangle]
+pub extern "C" fn hartley_found(answer: u64) -> u64
+    ensures { λ r. ⌜ r ≡ foundIn answer ⌝ }
+{
+    answer / 256 % 256
+}
+
+// The line that a search has found, in its answer.
+#[no_mangle]
+pub extern "C" fn hartley_line(answer: u64) -> u64
+    ensures { λ r. ⌜ r ≡ lineIn answer ⌝ }
+{
+    answer / 65536 % 65536
+}
+
 // The rate in the answer to an accepted trace.
 #[no_mangle]
 pub extern "C" fn hartley_rate(answer: u64) -> u64
@@ -152,5 +188,5 @@ pub extern "C" fn hartley_blocks(answer: u64) -> u64
 pub extern "C" fn hartley_version() -> u64
     ensures { λ r. ⌜ r ≡ VERSION ⌝ }
 {
-    1
+    2
 }

@@ -30,7 +30,10 @@ use Rattle.trace.specs.declared.TraceAnswer.{TraceAnswer}
 use Rattle.trace.specs.declared.TraceAnswer.the-variants.{Accepted, Refused as TraceRefused}
 use Rattle.trace.specs.Contents.{LONGEST}
 use Rattle.trace.specs.TraceAnswers.{traceAnswerNumbers}
-use Rattle.packing.specs.Packing.{blocksIn, caseNumbers, caseOf, numberIn, packed, packedRefusal, packedScaled, packedTrace, pIn, placeFor, placeIn, rateIn, unlessRefused, unpackedBlock, unpackedFetch, unpackedScaled, unpackedTrace}
+use Rattle.search.specs.declared.SearchAnswer.{SearchAnswer}
+use Rattle.search.specs.declared.SearchAnswer.the-variants.{Found, None, Refused as SearchRefused}
+use Rattle.search.specs.SearchAnswers.{searchNumbers}
+use Rattle.packing.specs.Packing.{blocksIn, caseNumbers, caseOf, foundIn, lineIn, numberIn, packed, packedRefusal, packedScaled, packedSearch, packedTrace, pIn, placeFor, placeIn, rateIn, unlessRefused, unpackedBlock, unpackedFetch, unpackedScaled, unpackedSearch, unpackedTrace}
 
 -- ---- a refusal
 
@@ -213,3 +216,15 @@ pub fetch-unpacked : (k : ℕ) (answer : TraceAnswer) → ((refusal : Refusal) �
 unfolding unpackedFetch
 fetch-unpacked k (Accepted head blocks) small fits = accepted-told head blocks (fits head blocks refl) _
 fetch-unpacked k (TraceRefused refusal) small fits = told refusal _ _ (place-for k refusal (small refusal refl))
+
+-- ---- a search
+
+pub search-unpacked : (asked : ℕ) (answer : SearchAnswer) → ((refusal : Refusal) → answer ≡ SearchRefused refusal → Tellable asked refusal) → ((line : LineOf) → answer ≡ Found line → line .0 < 256 ^ 2)
+    → unpackedSearch asked (packedSearch answer) ≡ searchNumbers answer
+unfolding unpackedSearch
+search-unpacked asked (Found line) tellable fits = let v = line .0 in let h = fits line refl in let a = 256 * (1 + 256 * v) in
+    let small : v % 256 ^ 2 ≡ v = omega arith in let done : numberIn a ≡ 0 = omega arith in let after-1 : a / 256 ≡ 1 + 256 * v = omega arith in
+    let one : (1 + 256 * v) % 256 ≡ 1 = omega arith in let after-2 : a / 256 ^ 2 ≡ v = omega arith in
+    rw (small, eq-eqb (numberIn a) 0 done, after-1, one, after-2, small) refl
+search-unpacked asked None tellable fits = refl
+search-unpacked asked (SearchRefused refusal) tellable fits = told refusal _ _ (place-for asked refusal (tellable refusal refl))

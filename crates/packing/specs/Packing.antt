@@ -1,6 +1,6 @@
 -- What the plain number means that answers a host in C. In eight bytes, least byte first: a refusal is its number in one byte and the lower seven bytes of
 -- its place; an accepted trace is 0 in one byte, P in one, the number of blocks in two and the rate in four; a scaled line is 0 in one byte and its case in
--- the next; and a call on a block that is done is 0.
+-- the next; a line that a search finds is 0 in one byte, 1 in the next and the line in two; a search that finds none and a call on a block that is done are 0.
 use mathlib.Core.Bool.{cond, _||_}
 use mathlib.Core.List.{List, [], _∷_, _++_}
 use Prim.Native.Nat.{ℕ, _+_, _*_, _/_, _%_, _^_}
@@ -15,6 +15,8 @@ use Rattle.block.specs.declared.Answer.{Answer}
 use Rattle.block.specs.declared.Answer.the-variants.{Done, Refused}
 use Rattle.trace.specs.declared.TraceAnswer.{TraceAnswer}
 use Rattle.trace.specs.declared.TraceAnswer.the-variants.{Accepted, Refused as TraceRefused}
+use Rattle.search.specs.declared.SearchAnswer.{SearchAnswer}
+use Rattle.search.specs.declared.SearchAnswer.the-variants.{Found, None, Refused as SearchRefused}
 use Rattle.fourier.specs.declared.ScaledLine.{ScaledLine}
 use Rattle.fourier.specs.declared.ScaledLine.the-variants.{Mean, Last, Pair, Refused as LineRefused}
 
@@ -41,6 +43,11 @@ packedScaled (Last last) = 256 * 2
 packedScaled (Pair pair) = 256 * 3
 packedScaled (LineRefused refusal) = packedRefusal refusal
 
+abbrev pub packedSearch : SearchAnswer → ℕ
+packedSearch (Found line) = 256 * (1 + 256 * (line .0 % 256 ^ 2))
+packedSearch None = 0
+packedSearch (SearchRefused refusal) = packedRefusal refusal
+
 -- ---- and unpacked
 
 abbrev pub numberIn : ℕ → ℕ
@@ -60,6 +67,12 @@ rateIn answer = answer / 256 ^ 4
 
 abbrev pub caseIn : ℕ → ℕ
 caseIn answer = answer / 256 % 256
+
+abbrev pub foundIn : ℕ → ℕ
+foundIn answer = answer / 256 % 256
+
+abbrev pub lineIn : ℕ → ℕ
+lineIn answer = answer / 256 ^ 2 % 256 ^ 2
 
 -- The place of 4 and 16 is the line or the block that was asked for, which the host has itself.
 abbrev pub placeFor : ℕ → ℕ → ℕ
@@ -87,3 +100,7 @@ unpackedScaled line answer = unlessRefused answer (placeFor line answer) (caseIn
 abbrev pub caseNumbers : ℕ → ℕ → BlockVerdict → List ℕ
 caseNumbers N v (Taken kind) = caseOf N v ∷ []
 caseNumbers N v (BlockRefused refusal) = number refusal ∷ place refusal ∷ []
+
+-- of a search, where the line of a refusal 4 is the one asked for: the line that is found, nothing where there is none
+unfoldable pub unpackedSearch : ℕ → ℕ → List ℕ
+unpackedSearch asked answer = unlessRefused answer (placeFor asked answer) (cond (eqb (foundIn answer) 0) [] (lineIn answer ∷ []))

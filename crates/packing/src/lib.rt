@@ -3,10 +3,11 @@ use block::Answer;
 use fourier::ScaledLine;
 use record::Head;
 use refusal::Refusal;
+use search::SearchAnswer;
 use trace::TraceAnswer;
 ghost use mathlib.Core.Path.{_≡_};
 ghost use Rattle.trace.specs.declared.TraceAnswer.the-variants.{Accepted};
-ghost use Rattle.packing.specs.Packing.{packed, packedRefusal, packedScaled, packedTrace};
+ghost use Rattle.packing.specs.Packing.{packed, packedRefusal, packedScaled, packedSearch, packedTrace};
 
 // The cases of a scaled line.
 const MEAN: u64 = 1;
@@ -44,6 +45,17 @@ pub fn packed_scaled(answer: ScaledLine) -> u64
         ScaledLine::Last(_) => 256 * LAST,
         ScaledLine::Pair(_) => 256 * PAIR,
         ScaledLine::Refused(refusal) => packed_refusal(refusal),
+    }
+}
+
+// The line that a search has found, that there is none, or the refusal.
+pub fn packed_search(answer: SearchAnswer) -> u64
+    ensures { λ r. ⌜ r ≡ packedSearch answer ⌝ }
+{
+    match answer {
+        SearchAnswer::Found(line) => 256 * (1 + 256 * (line.0 as u64 % 65536)),
+        SearchAnswer::None => 0,
+        SearchAnswer::Refused(refusal) => packed_refusal(refusal),
     }
 }
 

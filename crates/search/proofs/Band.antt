@@ -5,7 +5,7 @@ use mathlib.Core.Path.{_≡_, refl, sym, _∙_, ap, subst}
 use mathlib.Core.Bool.{Bool, true, false, cond, not, _&&_}
 use mathlib.Core.List.{List}
 use mathlib.Core.Logic.{_⊎_, inl, inr}
-use Prim.Native.Nat.{ℕ, _+_, _≤_, _<_}
+use Prim.Native.Nat.{ℕ, _+_, _-_, _≤_, _<_}
 use native.Mathlib.Nat.{eq-or-lt-of-le}
 use native.Mathlib.Omega.{arith}
 use borrow.Author.Tests.{le-leb, leb-true}
@@ -51,28 +51,38 @@ module _ (ps : List ℤ) where
         go w a (inl same) = rw same (≤ℤ-refl (cell ps next))
         go w a (inr h) = less-at-most (below w a h)
 
-  -- the strongest line of a band, with its power
-  pub record Peaked (low high : ℕ) (peak : Peak) : Type 0 where
-    pub strongest : Strongest ps low high (peak .line)
+  -- the strongest of the lines from low on and before `next`, with its power
+  pub record Peaked (low next : ℕ) (peak : Peak) : Type 0 where
+    pub some : low < next
+    pub strongest : Strongest ps low (next - 1) (peak .line)
     pub its-power : peak .power ≡ cell ps (peak .line)
 
-  pub peak-first : (v : ℕ) {power : ℤ} → power ≡ cell ps v → Peaked v v (record { line = v; power = power })
-  peak-first v e = record { strongest = strongest-first v; its-power = e }
+  pub peak-first : (v : ℕ) {power : ℤ} → power ≡ cell ps v → Peaked v (v + 1) (record { line = v; power = power })
+  peak-first v e = let same : v + 1 - 1 ≡ v = omega arith in record { some = omega arith; strongest = rw same (strongest-first v); its-power = e }
 
-  pub peak-next : (low high next : ℕ) {power : ℤ} (peak : Peak) → next ≡ high + 1 → power ≡ cell ps next → Peaked low high peak → Peaked low next (stronger peak next power)
-  peak-next low high next {power} peak e p s = go (reaches (peak .power) power) refl
+  pub peak-next : (low next after : ℕ) {power : ℤ} (peak : Peak) → after ≡ next + 1 → power ≡ cell ps next → Peaked low next peak → Peaked low after (stronger peak next power)
+  peak-next low next after {power} peak e p s = go (reaches (peak .power) power) refl
     where
+      some : low < after
+      some = omega (arith, s .some)
+
+      behind : next ≡ next - 1 + 1
+      behind = omega (arith, s .some)
+
+      up-to : after - 1 ≡ next
+      up-to = omega arith
+
       same : {t : Bool} → reaches (peak .power) power ≡ t → reaches (cell ps (peak .line)) (cell ps next) ≡ t
       same f = rw (← s .its-power, ← p) f
 
-      go : (t : Bool) → reaches (peak .power) power ≡ t → Peaked low next (cond t peak (record { line = next; power = power }))
-      go true f = record { strongest = strongest-kept low high next (peak .line) e (s .strongest) (same f); its-power = s .its-power }
-      go false f = record { strongest = strongest-new low high next (peak .line) e (s .strongest) (same f); its-power = p }
+      go : (t : Bool) → reaches (peak .power) power ≡ t → Peaked low after (cond t peak (record { line = next; power = power }))
+      go true f = record { some = some; strongest = rw up-to (strongest-kept low (next - 1) next (peak .line) behind (s .strongest) (same f)); its-power = s .its-power }
+      go false f = record { some = some; strongest = rw up-to (strongest-new low (next - 1) next (peak .line) behind (s .strongest) (same f)); its-power = p }
 
-  pub peak-four : (low high v next : ℕ) {a b c d : ℤ} (peak : Peak) → v ≡ high + 1 → next ≡ v + 3 → a ≡ cell ps v → b ≡ cell ps (v + 1) → c ≡ cell ps (v + 2) → d ≡ cell ps (v + 3)
-      → Peaked low high peak → Peaked low next (stronger (stronger (stronger (stronger peak v a) (v + 1) b) (v + 2) c) (v + 3) d)
-  peak-four low high v next peak e last ea eb ec ed s = rw last (peak-next low (v + 2) (v + 3) _ (omega arith) ed
-      (peak-next low (v + 1) (v + 2) _ (omega arith) ec (peak-next low v (v + 1) _ refl eb (peak-next low high v peak e ea s))))
+  pub peak-four : (low v : ℕ) {a b c d : ℤ} (peak : Peak) → a ≡ cell ps v → b ≡ cell ps (v + 1) → c ≡ cell ps (v + 2) → d ≡ cell ps (v + 3)
+      → Peaked low v peak → Peaked low (v + 4) (stronger (stronger (stronger (stronger peak v a) (v + 1) b) (v + 2) c) (v + 3) d)
+  peak-four low v peak ea eb ec ed s = peak-next low (v + 3) (v + 4) _ (omega arith) ed (peak-next low (v + 2) (v + 3) _ (omega arith) ec
+      (peak-next low (v + 1) (v + 2) _ (omega arith) eb (peak-next low v (v + 1) peak refl ea s)))
 
   -- ---- what the definition gives
 

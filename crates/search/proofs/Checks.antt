@@ -1,28 +1,30 @@
 -- The checks of a search: which lengths a list of powers can have, what is known of what is taken, and that the checks say in numbers what the rows say.
 -- Example: `strongest-numbers ps low high : searchNumbers (strongestAnswer ps low high) ≡ strongestNumbers ps (low .0) (high .0)`.
 use mathlib.Core.Path.{_≡_, refl, sym, _∙_, ap}
-use mathlib.Core.Bool.{Bool, true, false, cond}
+use mathlib.Core.Bool.{Bool, true, false, cond, not, _&&_}
 use mathlib.Core.List.{List, [], _∷_}
 use Prim.Native.Nat.{ℕ, zero, suc, _+_, _*_, _-_, _^_, _≤_, _<_}
 use native.Mathlib.Omega.{arith}
 use borrow.Author.Tests.{eq-eqb, eqb-true, eqb-false, ne-eqb, lt-ltb, le-ltb, ltb-true, ltb-false}
-use lib.Dec.{eqb, ltb}
+use lib.Dec.{eqb, leb, ltb}
 use lib.IntN.{ℤ}
 use lib.ListN.{length}
 use lib.Pow.{pow-mono, pow-pos}
+use Rattle.ints.specs.Cells.{cell}
 use Rattle.kind.specs.declared.KindFound.{KindFound}
-use Rattle.kind.specs.declared.KindFound.the-variants.{Found, None}
+use Rattle.kind.specs.declared.KindFound.the-variants.{None}
 use Rattle.kind.specs.declared.Line.{Line}
 use Rattle.kind.specs.BlockKinds.{exponent, found, kindOf}
 use Rattle.kind.proofs.Lengths.{Kind-length, kind-none}
 use Rattle.refusal.specs.declared.Refusal.{Refusal}
 use Rattle.refusal.specs.declared.Refusal.the-variants.{Length, Line as LineAbove}
 use Rattle.search.specs.declared.SearchAnswer.{SearchAnswer}
+use Rattle.search.specs.declared.SearchAnswer.the-variants.{Found, Refused as SearchRefused}
 use Rattle.search.specs.declared.SearchVerdict.{SearchVerdict}
 use Rattle.search.specs.declared.SearchVerdict.the-variants.{Taken, Refused}
-use Rattle.search.specs.Search.{nearest, strongest}
+use Rattle.search.specs.Search.{distance, nearest, reaches, strongest}
 use Rattle.search.specs.SearchTests.{absent, bandRows, chosenRows, firstGiven, lengthRow, none, testedBand, testedChosen, wrongLength}
-use Rattle.search.proofs.Lowest.{one-outcome}
+use Rattle.search.proofs.Lowest.{best-below, best-unrefused, one-outcome}
 use Rattle.search.specs.SearchAnswers.{answerTo, nearestAnswer, nearestNumbers, searchNumbers, strongestAnswer, strongestNumbers}
 
 -- ---- 1: the lengths
@@ -42,6 +44,13 @@ too-many n h = rw (kind-none (2 * (n - 1)) (λ P k. beyond P (k .most) (k .cells
 pub some-power : (n : ℕ) → wrongLength n ≡ false → 1 ≤ n
 some-power zero e = one-outcome (no-power 0 refl) e
 some-power (suc n) e = omega arith
+
+few-powers : (n : ℕ) → wrongLength n ≡ false → n ≤ 1024
+few-powers n e = go (ltb 1024 n) refl
+  where
+    go : (t : Bool) → ltb 1024 n ≡ t → n ≤ 1024
+    go true h = one-outcome (too-many n (ltb-true 1024 n h)) e
+    go false h = ltb-false 1024 n h
 
 pub none-is : (n : ℕ) {k : KindFound} → k ≡ kindOf (2 * (n - 1)) → none k ≡ wrongLength n
 unfolding wrongLength
@@ -110,6 +119,7 @@ module _ (n : ℕ) (chosen : Line) where
 pub record BandTaken (n : ℕ) (low high : Line) : Type 0 where
   pub ordered : low .0 ≤ high .0
   pub listed : high .0 < n
+  pub few : n ≤ 1024
 
 pub band-known : (n : ℕ) (low high : Line) → testedBand n low high ≡ Taken → BandTaken n low high
 band-known n low high e = go (wrongLength n) (ltb (n - 1) (low .0)) (ltb (n - 1) (high .0)) (ltb (high .0) (low .0)) refl refl refl refl
@@ -122,18 +132,22 @@ band-known n low high e = go (wrongLength n) (ltb (n - 1) (low .0)) (ltb (n - 1)
     go false true v w a b c d = refused (low-beyond n low high a (ltb-true _ _ b))
     go false false true w a b c d = refused (high-beyond n low high a (ltb-false _ _ b) (ltb-true _ _ c))
     go false false false true a b c d = refused (turned-round n low high a (ltb-false _ _ b) (ltb-false _ _ c) (ltb-true _ _ d))
-    go false false false false a b c d = record { ordered = ltb-false _ _ d; listed = omega (arith, ltb-false (n - 1) (high .0) c, some-power n a) }
+    go false false false false a b c d = record { ordered = ltb-false _ _ d; listed = omega (arith, ltb-false (n - 1) (high .0) c, some-power n a); few = few-powers n a }
 
-pub chosen-known : (n : ℕ) (chosen : Line) → testedChosen n chosen ≡ Taken → chosen .0 < n
+pub record ChosenTaken (n : ℕ) (chosen : Line) : Type 0 where
+  pub listed : chosen .0 < n
+  pub few : n ≤ 1024
+
+pub chosen-known : (n : ℕ) (chosen : Line) → testedChosen n chosen ≡ Taken → ChosenTaken n chosen
 chosen-known n chosen e = go (wrongLength n) (ltb (n - 1) (chosen .0)) refl refl
   where
-    refused : {refusal : Refusal} → Refused refusal ≡ testedChosen n chosen → chosen .0 < n
+    refused : {refusal : Refusal} → Refused refusal ≡ testedChosen n chosen → ChosenTaken n chosen
     refused f = let z : _≡_ {A = ℕ} 0 1 = cc in absurd (omega arith)
 
-    go : (t u : Bool) → wrongLength n ≡ t → ltb (n - 1) (chosen .0) ≡ u → chosen .0 < n
+    go : (t u : Bool) → wrongLength n ≡ t → ltb (n - 1) (chosen .0) ≡ u → ChosenTaken n chosen
     go true u a b = refused (chosen-length n chosen a)
     go false true a b = refused (chosen-beyond n chosen a (ltb-true _ _ b))
-    go false false a b = omega (arith, ltb-false (n - 1) (chosen .0) b, some-power n a)
+    go false false a b = record { listed = omega (arith, ltb-false (n - 1) (chosen .0) b, some-power n a); few = few-powers n a }
 
 -- ---- in numbers
 
@@ -179,3 +193,22 @@ module _ (ps : List ℤ) (chosen : Line) (level : ℤ) {k : SearchVerdict} (e : 
     where
       is : r ≡ nearestAnswer ps chosen level
       is = g ∙ ap (λ (k : SearchVerdict). answerTo k (nearest ps (chosen .0) level)) (sym f ∙ e)
+
+-- ---- how large the numbers of an answer can be, and by which refusals it refuses
+
+module _ (ps : List ℤ) where
+  pub strongest-listed : (low high line : Line) → strongest ps (low .0) (high .0) ≡ Found line → line .0 < length ps
+  unfolding strongest
+  strongest-listed low high line e = best-below (λ v. leb (low .0) v && leb v (high .0)) (λ w v. not (reaches (cell ps v) (cell ps w))) (length ps) line e
+
+  pub strongest-unrefused : (low high : Line) (refusal : Refusal) → strongest ps (low .0) (high .0) ≡ SearchRefused refusal → ⊥
+  unfolding strongest
+  strongest-unrefused low high refusal e = best-unrefused (λ v. leb (low .0) v && leb v (high .0)) (λ w v. not (reaches (cell ps v) (cell ps w))) (length ps) refusal e
+
+  pub nearest-listed : (chosen : Line) (level : ℤ) (line : Line) → nearest ps (chosen .0) level ≡ Found line → line .0 < length ps
+  unfolding nearest
+  nearest-listed chosen level line e = best-below (λ v. reaches (cell ps v) level) (λ w v. ltb (distance (chosen .0) w) (distance (chosen .0) v)) (length ps) line e
+
+  pub nearest-unrefused : (chosen : Line) (level : ℤ) (refusal : Refusal) → nearest ps (chosen .0) level ≡ SearchRefused refusal → ⊥
+  unfolding nearest
+  nearest-unrefused chosen level refusal e = best-unrefused (λ v. reaches (cell ps v) level) (λ w v. ltb (distance (chosen .0) w) (distance (chosen .0) v)) (length ps) refusal e

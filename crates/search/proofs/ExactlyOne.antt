@@ -53,18 +53,18 @@ module _ (ps : List ℤ) where
       clash v w s t h = clashℤ (t .none-lower v (s .from) h) (s .none-stronger w (t .from) (t .to))
 
   -- one line after another
-  peak : (low n high : ℕ) → high ≡ low + n → (p : Peak) × Peaked ps low high p
-  peak low zero high e = let same : high ≡ low = omega arith in rw same (_, peak-first ps low refl)
-  peak low (suc n) high e = go (peak low n (low + n) refl)
+  peak : (low n next : ℕ) → next ≡ low + 1 + n → (p : Peak) × Peaked ps low next p
+  peak low zero next e = let same : next ≡ low + 1 = omega arith in rw same (_, peak-first ps low refl)
+  peak low (suc n) next e = go (peak low n (low + 1 + n) refl)
     where
-      go : (p : Peak) × Peaked ps low (low + n) p → (p : Peak) × Peaked ps low high p
-      go p = (_, peak-next ps low (low + n) high (p .0) (omega arith) refl (p .1))
+      go : (p : Peak) × Peaked ps low (low + 1 + n) p → (p : Peak) × Peaked ps low next p
+      go p = (_, peak-next ps low (low + 1 + n) next (p .0) (omega arith) refl (p .1))
 
   pub strongest-exactly : (low high : ℕ) → low ≤ high → high < length ps → ExactlyOne (Strongest ps low high) (strongest ps low high)
-  strongest-exactly low high h k = go (peak low (high - low) high (omega arith))
+  strongest-exactly low high h k = go (peak low (high - low) (high + 1) (omega arith))
     where
-      go : (p : Peak) × Peaked ps low high p → ExactlyOne (Strongest ps low high) (strongest ps low high)
-      go p = let s = p .1 .strongest in
+      go : (p : Peak) × Peaked ps low (high + 1) p → ExactlyOne (Strongest ps low high) (strongest ps low high)
+      go p = let same : high + 1 - 1 ≡ high = omega arith in let s = rw same at (p .1 .strongest) in
           record { line = p .0 .line; has = s; no-other = λ w t. strongest-unique low high _ w s t; answered = strongest-is ps low high _ k s }
 
   -- ---- the nearest line that reaches a level

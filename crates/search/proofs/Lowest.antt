@@ -1,13 +1,15 @@
 -- The lowest line that is among some and is beaten by none of them: what a line must have to be it. Either search is this, with tests of its own.
 -- Example: `best-is among beats n v in-list is-among unbeaten lower : best among beats n ≡ Found (record { 0 = v })`.
 use mathlib.Core.Path.{_≡_, refl, sym, _∙_, ap, subst}
-use mathlib.Core.Bool.{Bool, true, false, not, _&&_}
+use mathlib.Core.Bool.{Bool, true, false, cond, not, _&&_}
 use mathlib.Core.Logic.{_⊎_, inl, inr}
 use Prim.Native.Nat.{ℕ, zero, suc, _+_, _≤_, _<_}
 use native.Mathlib.Nat.{eq-or-lt-of-le}
 use native.Mathlib.Omega.{arith}
 use lib.Dec.{T}
-use Rattle.search.specs.declared.SearchAnswer.the-variants.{Found, None}
+use Rattle.kind.specs.declared.Line.{Line}
+use Rattle.refusal.specs.declared.Refusal.{Refusal}
+use Rattle.search.specs.declared.SearchAnswer.the-variants.{Found, None, Refused}
 use Rattle.search.specs.Search.{some, lowest, best}
 
 -- a test has one outcome
@@ -50,6 +52,24 @@ module _ (test : ℕ → Bool) where
       go (inl same) f = rw (same, t) refl
       go (inr above) f = rw (h v (omega arith) (omega arith)) (f (omega arith) (omega arith) t (λ u c d. h u (omega arith) d))
 
+  lowest-below : (v n : ℕ) (line : Line) → lowest test v n ≡ Found line → line .0 < v + n
+  unfolding lowest
+  lowest-below v zero line e = let z : _≡_ {A = ℕ} 0 1 = cc in absurd (omega arith)
+  lowest-below v (suc n) line e = go (test v) e (lowest-below (suc v) n line)
+    where
+      go : (t : Bool) → cond t (Found (record { 0 = v })) (lowest test (suc v) n) ≡ Found line → (lowest test (suc v) n ≡ Found line → line .0 < suc v + n) → line .0 < v + suc n
+      go true e f = let same : v ≡ line .0 = cc in omega arith
+      go false e f = let h = f e in omega arith
+
+  lowest-unrefused : (v n : ℕ) (refusal : Refusal) → lowest test v n ≡ Refused refusal → ⊥
+  unfolding lowest
+  lowest-unrefused v zero refusal e = let z : _≡_ {A = ℕ} 0 1 = cc in omega arith
+  lowest-unrefused v (suc n) refusal e = go (test v) e (lowest-unrefused (suc v) n refusal)
+    where
+      go : (t : Bool) → cond t (Found (record { 0 = v })) (lowest test (suc v) n) ≡ Refused refusal → (lowest test (suc v) n ≡ Refused refusal → ⊥) → ⊥
+      go true e f = let z : _≡_ {A = ℕ} 0 1 = cc in omega arith
+      go false e f = f e
+
 -- ---- the best of those that are among some
 
 module _ (among : ℕ → Bool) (beats : ℕ → ℕ → Bool) (n : ℕ) where
@@ -77,3 +97,9 @@ module _ (among : ℕ → Bool) (beats : ℕ → ℕ → Bool) (n : ℕ) where
 
   pub best-none : ((v : ℕ) → v < n → among v ≡ false) → best among beats n ≡ None
   best-none h = lowest-none (λ v. among v && not (some (Beats v) 0 n)) 0 n (λ v a b. rw (h v (omega arith)) refl)
+
+  pub best-below : (line : Line) → best among beats n ≡ Found line → line .0 < n
+  best-below line e = omega (arith, lowest-below (λ v. among v && not (some (Beats v) 0 n)) 0 n line e)
+
+  pub best-unrefused : (refusal : Refusal) → best among beats n ≡ Refused refusal → ⊥
+  best-unrefused refusal e = lowest-unrefused (λ v. among v && not (some (Beats v) 0 n)) 0 n refusal e

@@ -109,18 +109,18 @@ fn look_through(powers: &[i64], low: Line, high: Line) -> Line
     requires { ⌜ (low .0 ≤ high .0) × (high .0 < length (now powers)) ⌝ }
     ensures { λ r. ⌜ Strongest (now (powers .entry)) (low .0) (high .0) (r .0) ⌝ }
 {
+    let first = low.0;
     let last = high.0;
-    let mut v = low.0;
     let mut peak = Peak {
-        line: v,
-        power: power_at(powers, v),
+        line: first,
+        power: power_at(powers, first),
     };
-    while v < last {
-        if last - v < 4 {
-            v += 1;
-            peak = stronger(peak, v, power_at(powers, v));
+    let mut next = first + 1;
+    while next <= last {
+        if last - next < 3 {
+            peak = stronger(peak, next, power_at(powers, next));
+            next += 1;
         } else {
-            let next = v + 1;
             peak = stronger_of_four(
                 peak,
                 next,
@@ -129,7 +129,7 @@ fn look_through(powers: &[i64], low: Line, high: Line) -> Line
                 power_at(powers, next + 2),
                 power_at(powers, next + 3),
             );
-            v += 4;
+            next += 4;
         }
     }
     Line(peak.line)
@@ -187,11 +187,13 @@ fn look_outwards(powers: &[i64], chosen: Line, level: i64) -> SearchAnswer
     let near = smaller(v, powers.len() - 1 - v);
     let mut far = 1;
     while far <= near {
-        if reaches_at(powers, v - far, level) {
-            return SearchAnswer::Found(Line(v - far));
+        let below = v - far;
+        let above = v + far;
+        if reaches_at(powers, below, level) {
+            return SearchAnswer::Found(Line(below));
         }
-        if reaches_at(powers, v + far, level) {
-            return SearchAnswer::Found(Line(v + far));
+        if reaches_at(powers, above, level) {
+            return SearchAnswer::Found(Line(above));
         }
         far += 1;
     }

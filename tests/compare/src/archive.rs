@@ -21,11 +21,15 @@ extern "C" {
         real: *mut f64,
         imaginary: *mut f64,
     ) -> u64;
+    fn hartley_strongest(powers: *const u8, powers_bytes: usize, low: usize, high: usize) -> u64;
+    fn hartley_nearest(powers: *const u8, powers_bytes: usize, chosen: usize, level: i64) -> u64;
     fn hartley_check(trace: *const u8, trace_bytes: usize) -> u64;
     fn hartley_fetch(trace: *const u8, trace_bytes: usize, k: usize, cells: *mut u8, cells_bytes: usize) -> u64;
     fn hartley_number(answer: u64) -> u64;
     fn hartley_place(answer: u64) -> u64;
     fn hartley_case(answer: u64) -> u64;
+    fn hartley_found(answer: u64) -> u64;
+    fn hartley_line(answer: u64) -> u64;
     fn hartley_rate(answer: u64) -> u64;
     fn hartley_p(answer: u64) -> u64;
     fn hartley_blocks(answer: u64) -> u64;
@@ -109,6 +113,15 @@ pub fn scaled(spectrum: &mut Lent, line: u64, [real, imaginary]: &mut [Lent; 2])
     unsafe { hartley_scaled(spectrum.pointer(), spectrum.count, line as usize, real, imaginary) }
 }
 
+/// The powers, too, are lent as if they could be written; so are those of the next.
+pub fn strongest(powers: &mut Lent, low: u64, high: u64) -> u64 {
+    unsafe { hartley_strongest(powers.pointer(), powers.count, low as usize, high as usize) }
+}
+
+pub fn nearest(powers: &mut Lent, chosen: u64, level: i64) -> u64 {
+    unsafe { hartley_nearest(powers.pointer(), powers.count, chosen as usize, level) }
+}
+
 /// The trace, too, is lent as if it could be written; so is that of the next.
 pub fn check(trace: &mut Lent) -> u64 {
     unsafe { hartley_check(trace.pointer(), trace.count) }
@@ -121,6 +134,11 @@ pub fn fetch(trace: &mut Lent, k: u64, cells: &mut Lent) -> u64 {
 /// What the unpacking calls say of any answer: number, place and case.
 pub fn unpacked(a: u64) -> [u64; 3] {
     unsafe { [hartley_number(a), hartley_place(a), hartley_case(a)] }
+}
+
+/// What they say of the answer to a search: whether a line was found, and the line.
+pub fn unpacked_search(a: u64) -> [u64; 2] {
+    unsafe { [hartley_found(a), hartley_line(a)] }
 }
 
 /// What they say of the answer to an accepted trace: rate, P and the number of blocks.

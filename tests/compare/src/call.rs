@@ -11,6 +11,8 @@ pub enum Call {
     Parts,
     Power,
     Scaled,
+    Strongest,
+    Nearest,
     Check,
     Fetch,
     List,

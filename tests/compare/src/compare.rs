@@ -3,9 +3,10 @@
 
 use crate::archive::{self, Lent};
 use crate::call::Call;
+use crate::cases::{self, Case};
 use crate::inputs::{cells_of, negated};
 use crate::random::Random;
-use crate::report::{packed, packed_trace, Run};
+use crate::report::{found, packed, packed_trace, Run};
 use crate::tally::Tally;
 use oracle::{Contents, Refusal, Scaled};
 use std::io::Write;
@@ -129,7 +130,7 @@ impl Comparison {
         };
         let second_answer = packed(second.map(|_| 256 * case));
         let mut run = Run::new(Call::Scaled, sort, cells, [answer, second_answer]);
-        run.asked = Some(line);
+        run.asked = format!("line {line}");
         self.same_answer(&run, answer, second_answer);
         self.same(&run, "hartley_case", archive::unpacked(answer)[2], second_answer / 256 % 256);
         self.same_lent(&run, "spectrum", &lent, cells);
@@ -157,6 +158,50 @@ impl Comparison {
         }
     }
 
+    /// The strongest line of a band. Gives the answer.
+    pub fn strongest(&mut self, sort: &'static str, powers: &[u8], low: u64, high: u64) -> u64 {
+        let mut lent = Lent::new(powers, &mut self.random);
+        let answer = archive::strongest(&mut lent, low, high);
+        let second = oracle::strongest_bytes(powers, low, high);
+        let second_answer = packed(second.map(|line| found(Some(line))));
+        let mut run = Run::new(Call::Strongest, sort, powers, [answer, second_answer]);
+        run.asked = format!("the strongest line from {low} to {high}");
+        self.same_search(&run, answer, second_answer);
+        self.same_lent(&run, "powers", &lent, powers);
+        let wrong = low.max(high) > 512 || low > high; // even in the longest list
+        self.count_search(&run, second.err(), wrong, &cases::of_strongest(&cells_of(powers), low, high, second));
+        answer
+    }
+
+    /// The line nearest to a chosen one that reaches a level. Gives the answer.
+    pub fn nearest(&mut self, sort: &'static str, powers: &[u8], chosen: u64, level: i64) -> u64 {
+        let mut lent = Lent::new(powers, &mut self.random);
+        let answer = archive::nearest(&mut lent, chosen, level);
+        let second = oracle::nearest_bytes(powers, chosen, level);
+        let second_answer = packed(second.map(found));
+        let mut run = Run::new(Call::Nearest, sort, powers, [answer, second_answer]);
+        run.asked = format!("the line nearest to {chosen} of at least {level}");
+        self.same_search(&run, answer, second_answer);
+        self.same_lent(&run, "powers", &lent, powers);
+        let cases = cases::of_nearest(&cells_of(powers), chosen, level, second);
+        self.count_search(&run, second.err(), chosen > 512, &cases);
+        answer
+    }
+
+    /// Counts a search: its P is that of a list of N/2 + 1 powers. Where the list has another length, the lines may be
+    /// wrong as well.
+    fn count_search(&mut self, run: &Run, refusal: Option<Refusal>, wrong: bool, cases: &[Case]) {
+        let number = refusal.map_or(0, |refusal| refusal.number);
+        let half = (run.input.len() / 8).max(2) - 1;
+        let p = half.ilog2() + 1;
+        self.tally.count(run.call, run.sort, number, p);
+        self.tally.count_cases(run.call, p as usize, cases);
+        if number == 1 {
+            self.tally.count_together(run.call, [1, 4], wrong);
+            self.tally.count_cases(run.call, p as usize, &cases::of_length(run.input.len()));
+        }
+    }
+
     /// The check of a trace. Gives the answer.
     pub fn check(&mut self, sort: &'static str, trace: &[u8]) -> u64 {
         let mut lent = Lent::new(trace, &mut self.random);
@@ -177,7 +222,7 @@ impl Comparison {
         let mut second_cells = cells.to_vec();
         let second = oracle::fetch_bytes(trace, k, &mut second_cells);
         let mut run = Run::new(Call::Fetch, sort, trace, [answer, packed_trace(&second)]);
-        (run.asked, run.output) = (Some(k), cells.len());
+        (run.asked, run.output) = (format!("block {k}"), cells.len());
         self.same_trace(&run, answer, &second);
         if second.is_err() {
             self.same_bytes(&run, "cells kept by the second program", cells, &second_cells);

@@ -3,6 +3,7 @@
 
 mod archive;
 mod call;
+mod cases;
 mod compare;
 mod double;
 mod fetches;
@@ -10,6 +11,7 @@ mod inputs;
 mod lines;
 mod random;
 mod report;
+mod search;
 mod tally;
 mod traces;
 mod worked;
@@ -54,6 +56,7 @@ fn main() {
             several(&mut c, call);
         }
         lines::lines(&mut c);
+        search::searches(&mut c);
         fetches::fetches(&mut c);
         traces(&mut c);
     }

@@ -13,14 +13,14 @@ pub struct Run<'a> {
     pub call: Call,
     pub sort: &'static str,
     pub input: &'a [u8],
-    pub asked: Option<u64>, // the line or the block that was asked for
-    pub output: usize,      // bytes, of all outputs
+    pub asked: String, // the line, the band or the block that was asked for, if any
+    pub output: usize, // bytes, of all outputs
     pub answers: [String; 2],
 }
 
 impl<'a> Run<'a> {
     pub fn new<A: ToString>(call: Call, sort: &'static str, input: &'a [u8], answers: [A; 2]) -> Run<'a> {
-        Run { call, sort, input, asked: None, output: 0, answers: answers.map(|answer| answer.to_string()) }
+        Run { call, sort, input, asked: String::new(), output: 0, answers: answers.map(|answer| answer.to_string()) }
     }
 }
 
@@ -32,6 +32,11 @@ pub fn refused(number: u64, place: u64) -> u64 {
 /// The answer to an accepted trace.
 pub fn accepted(rate: u64, p: u32, blocks: usize) -> u64 {
     256 * u64::from(p) + 65_536 * blocks as u64 + (rate << 32)
+}
+
+/// The answer to a search: a line that was found, or none.
+pub fn found(line: Option<u64>) -> u64 {
+    line.map_or(0, |line| 256 + 65_536 * line)
 }
 
 /// The answer that what the second program says would make.
@@ -53,6 +58,14 @@ impl Comparison {
         if second % 256 != 0 {
             self.same(run, "hartley_place", place, second / 256);
         }
+    }
+
+    /// The answer to a search, and what the unpacking calls say of it, which read the same bytes of any answer.
+    pub fn same_search(&self, run: &Run, answer: u64, second: u64) {
+        let [found, line] = archive::unpacked_search(answer);
+        self.same_answer(run, answer, second);
+        self.same(run, "hartley_found", found, second / 256 % 256);
+        self.same(run, "hartley_line", line, second / 65_536 % 65_536);
     }
 
     /// The answer to a trace, and what the unpacking calls say of it.
@@ -102,8 +115,8 @@ impl Comparison {
         println!("comparison: a difference at seed {}, input {}", self.seed, self.tally.inputs);
         println!("  call: {:?}, {}", run.call, run.sort);
         println!("  given: {} bytes, and {} of output", run.input.len(), run.output);
-        if let Some(asked) = run.asked {
-            println!("  asked for: {} {asked}", if run.call == Call::Fetch { "block" } else { "line" });
+        if !run.asked.is_empty() {
+            println!("  asked for: {}", run.asked);
         }
         println!("  first bytes given: {:02X?}", &run.input[..run.input.len().min(64)]);
         println!("  answer: {first}, second program {second}");

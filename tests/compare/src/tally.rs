@@ -1,25 +1,28 @@
 //! Counts what was run and how it was answered, and prints the tables.
 
 use crate::call::Call;
+use crate::cases::Case;
 use oracle::Scaled;
 use std::collections::{BTreeMap, BTreeSet};
 use std::process::exit;
 
 /// Every call, with the numbers of its refusals: those that are given at every P, 0 being the accepted inputs, and
 /// those of blocks and traces that have no P.
-const ANSWERS: [(Call, &[usize], &[usize]); 8] = [
+const ANSWERS: [(Call, &[usize], &[usize]); 10] = [
     (Call::Forward, &[0, 3], &[1]),
     (Call::Backward, &[0, 3], &[1]),
     (Call::Parts, &[0, 2, 3], &[1]),
     (Call::Power, &[0, 2, 3], &[1]),
     (Call::Scaled, &[0, 3, 4], &[1]),
+    (Call::Strongest, &[0, 4], &[1]),
+    (Call::Nearest, &[0, 4], &[1]),
     (Call::Check, &[0], &[10, 11, 12, 13, 14, 15]),
     (Call::Fetch, &[0, 2, 16], &[10, 11, 12, 13, 14, 15]),
     (Call::List, &[0], &[10, 11, 12, 13, 14, 15]),
 ];
 
 /// Faults that an input can have together, in the order of their tests: the first decides.
-const TOGETHER: [(Call, [u64; 2]); 10] = [
+const TOGETHER: [(Call, [u64; 2]); 12] = [
     (Call::Forward, [1, 3]),
     (Call::Backward, [1, 3]),
     (Call::Parts, [1, 3]),
@@ -29,6 +32,8 @@ const TOGETHER: [(Call, [u64; 2]); 10] = [
     (Call::Scaled, [1, 3]),
     (Call::Scaled, [1, 4]),
     (Call::Scaled, [3, 4]),
+    (Call::Strongest, [1, 4]),
+    (Call::Nearest, [1, 4]),
     (Call::Fetch, [16, 2]),
 ];
 
@@ -69,6 +74,8 @@ pub struct Tally {
     /// For each P the scaled lines, and the fetched blocks: 0, 1 and above.
     lines: [Lines; 11],
     fetched: [[u64; 3]; 11],
+    /// The cases of the searches, with the least P of each: how often it was seen at each P.
+    cases: BTreeMap<(Call, &'static str, usize), [u64; 11]>,
     /// For each P the blocks measured, and the largest distance, times 2^60.
     pub measured: [u64; 11],
     pub farthest: [i128; 11],
@@ -121,6 +128,13 @@ impl Tally {
         self.fetched[p][k.min(2) as usize] += 1;
     }
 
+    /// Counts a search of this P, for each case whether it is one.
+    pub fn count_cases(&mut self, call: Call, p: usize, cases: &[Case]) {
+        for &(case, least, shown) in cases {
+            self.cases.entry((call, case, least)).or_default()[p] += u64::from(shown);
+        }
+    }
+
     /// Counts a refused block if it was loud as well, and if the line was above N/2 as well.
     pub fn count_faults(&mut self, call: Call, number: u64, cells: &[i64], line: Option<u64>) {
         if number < 3 {
@@ -162,6 +176,16 @@ impl Tally {
         }
         println!("and {} blocks that forward takes without the negative", self.only_one_sign);
         self.print_each_p();
+        self.print_cases();
+    }
+
+    fn print_cases(&self) {
+        let heads: String = (1..=10).map(|p| format!("{p:>7}")).collect();
+        println!("\n{:50}{heads}", "cases of the searches, at P");
+        for ((call, case, _), counts) in &self.cases {
+            let counts: String = counts[1..].iter().map(|count| format!("{count:>7}")).collect();
+            println!("{:50}{counts}", format!("{call:?}, {case}"));
+        }
     }
 
     fn print_each_p(&self) {
@@ -215,6 +239,11 @@ impl Tally {
         }
         for p in 1..=10 {
             lacking.extend(self.lacking_cases(p));
+        }
+        for ((call, case, least), counts) in &self.cases {
+            for p in (*least..=10).filter(|&p| counts[p] == 0) {
+                lacking.push(format!("{call:?} has not shown, at P {p}: {case}"));
+            }
         }
         lacking
     }

@@ -5,7 +5,7 @@ use crate::call::Call;
 use crate::compare::Comparison;
 use crate::double;
 use crate::inputs::{bytes_of, cells_of};
-use crate::report::{accepted, refused};
+use crate::report::{accepted, found, refused};
 use crate::traces::{bytes, end, head, record};
 
 const SORT: &str = "worked sample";
@@ -17,11 +17,17 @@ pub const TRACE: [u8; 32] = [
 ];
 const LISTING: &str = "trace 8000 4 1\n0 0 20 0 200\n0 1 -4 4 16\n0 2 -4 0 8\nend\n";
 
+/// The powers of {0, 1, 0, 0, 0, 0, 0, 0}, whose spectrum is {1, 1, 1, 0, -1, -1, -1, 0}; and those of {1, 2, 3, 4}.
+const CRUNCH: [i64; 5] = [2, 1, 2, 1, 2];
+const FALLING: [i64; 3] = [200, 16, 8];
+
 pub fn samples(c: &mut Comparison) {
     second_program();
     blocks(c);
     scaled_lines(c);
     refused_blocks(c);
+    strongest_lines(c);
+    nearest_lines(c);
     traces(c);
     fetches(c);
 }
@@ -117,6 +123,61 @@ fn refused_blocks(c: &mut Comparison) {
     for (cells, answer) in [([0, 32_768], refused(3, 1)), ([-32_768, 32_767], 0)] {
         let (given, _) = c.signed_block(Call::Forward, SORT, &bytes_of(&cells), &[]);
         assert_eq!(given, answer, "forward of {cells:?}");
+    }
+}
+
+/// The strongest line "between two lines, both included", "the lowest of equals" (document 02, Item 2).
+fn strongest_lines(c: &mut Comparison) {
+    block(c, Call::Power, &[1, 1, 1, 0, -1, -1, -1, 0], &CRUNCH);
+    let line = |line| found(Some(line));
+    for (powers, low, high, answer) in [
+        (&CRUNCH[..], 0, 4, line(0)),
+        (&CRUNCH, 1, 4, line(2)),
+        (&CRUNCH, 3, 4, line(4)),
+        (&CRUNCH, 3, 3, line(3)),
+        (&FALLING, 0, 2, line(0)),
+        (&FALLING, 1, 2, line(1)),
+        (&[-3, -1, 0], 0, 1, line(1)),
+        (&[i64::MIN, i64::MAX], 0, 1, line(1)),
+        (&[0; 513], 512, 512, line(512)),
+        (&CRUNCH, 5, 4, refused(4, 5)),
+        (&CRUNCH, 4, 5, refused(4, 5)),
+        (&CRUNCH, 7, 6, refused(4, 7)), // the low end before the high
+        (&CRUNCH, 6, 7, refused(4, 6)),
+        (&CRUNCH, 4, 3, refused(4, 4)), // turned round
+        (&CRUNCH, 0, 1 << 32, refused(4, 1 << 32)),
+        (&CRUNCH, (1 << 56) + 1, 0, refused(4, 1)), // of the place, seven bytes are answered
+        (&[9; 4], 9, 3, 1),                         // 1 before 4
+        (&[9; 1024], 0, 0, 1),
+    ] {
+        let given = c.strongest(SORT, &bytes_of(powers), low, high);
+        assert_eq!(given, answer, "strongest of {powers:?} from {low} to {high}");
+    }
+}
+
+/// The nearest line that reaches the level, "the lower of two equally near", or none (document 02, Item 2).
+fn nearest_lines(c: &mut Comparison) {
+    let line = |line| found(Some(line));
+    for (powers, chosen, level, answer) in [
+        (&CRUNCH[..], 1, 2, line(0)),
+        (&CRUNCH, 3, 2, line(2)),
+        (&CRUNCH, 3, 1, line(3)), // the chosen line itself
+        (&CRUNCH, 3, 3, found(None)),
+        (&CRUNCH, 3, i64::MIN, line(3)),
+        (&FALLING, 2, 8, line(2)),
+        (&FALLING, 2, 9, line(1)),
+        (&FALLING, 2, 17, line(0)),
+        (&FALLING, 0, 201, found(None)),
+        (&[9, 0, 0, 9, 0], 2, 9, line(3)),
+        (&[9, 0, 0, 0, 9], 2, 9, line(0)),
+        (&[-3, -1, -2], 2, -1, line(1)),
+        (&[-3, -1, -2], 2, 0, found(None)),
+        (&CRUNCH, 5, 1, refused(4, 5)),
+        (&CRUNCH, 1 << 56, 1, 4), // of the place, seven bytes are answered
+        (&[9; 4], 9, 1, 1),       // 1 before 4
+    ] {
+        let given = c.nearest(SORT, &bytes_of(powers), chosen, level);
+        assert_eq!(given, answer, "nearest of {powers:?} to {chosen} at {level}");
     }
 }
 

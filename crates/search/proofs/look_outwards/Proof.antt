@@ -62,27 +62,21 @@ smaller-requires c κs = tt
 loop-holds : tie.Need-loop-holds Inv-loop μ-loop
 loop-holds c = let e = c .before in none-here _ _ _ (sym (e .before .reaches-at .ensures) ∙ e .if1 .left)
 
-sub-reaches-at : tie.Need-sub-reaches-at Inv-loop μ-loop
-sub-reaches-at c = omega arith
+sub-below : tie.Need-sub-below Inv-loop μ-loop
+sub-below c = omega arith
+
+add-above : tie.Need-add-above Inv-loop μ-loop
+add-above c = omega arith
 
 reaches-at-requires-2 : tie.Need-reaches-at-requires-2 Inv-loop μ-loop
 reaches-at-requires-2 c κs = omega arith
-
-sub-t14 : tie.Need-sub-t14 Inv-loop μ-loop
-sub-t14 c = omega arith
 
 returns-2 : tie.Need-returns-2 Inv-loop μ-loop
 returns-2 c = let a = c .before .before .before in
     sym (nearest-is _ _ _ _ (below-found _ _ _ (a .loop .far) (none a) (omega arith) (omega arith) (sym (below (c .before)) ∙ c .if2 .taken)))
 
-add-reaches-at : tie.Need-add-reaches-at Inv-loop μ-loop
-add-reaches-at c = omega arith
-
 reaches-at-requires-3 : tie.Need-reaches-at-requires-3 Inv-loop μ-loop
 reaches-at-requires-3 c κs = omega arith
-
-add-t17 : tie.Need-add-t17 Inv-loop μ-loop
-add-t17 c = omega arith
 
 returns-3 : tie.Need-returns-3 Inv-loop μ-loop
 returns-3 c = let e = c .before .before in let a = e .before .before .before in
@@ -122,13 +116,11 @@ look-outwards-spec =
     sub-smaller-2
     smaller-requires
     loop-holds
-    sub-reaches-at
+    sub-below
+    add-above
     reaches-at-requires-2
-    sub-t14
     returns-2
-    add-reaches-at
     reaches-at-requires-3
-    add-t17
     returns-3
     add-far
     loop-less

@@ -16,7 +16,7 @@ enum-told : tie.Need-enum-told
 enum-told c = c .match .keys2
 
 look-outwards-requires : tie.Need-look-outwards-requires
-look-outwards-requires c κs = chosen-known _ _ (sym (c .before .before .tested-chosen .ensures) ∙ c .enum-told .given .1)
+look-outwards-requires c κs = chosen-known _ _ (sym (c .before .before .tested-chosen .ensures) ∙ c .enum-told .given .1) .listed
 
 returns : tie.Need-returns
 returns c = nearest-so _ _ _ (c .before .before .before .tested-chosen .ensures) _ (c .before .refusal .given .1) refl
