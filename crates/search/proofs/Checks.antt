@@ -52,9 +52,10 @@ few-powers n e = go (ltb 1024 n) refl
     go true h = one-outcome (too-many n (ltb-true 1024 n h)) e
     go false h = ltb-false 1024 n h
 
-pub none-is : (n : ℕ) {k : KindFound} → k ≡ kindOf (2 * (n - 1)) → none k ≡ wrongLength n
+-- none has m cells, which is that N
+pub none-is : (n : ℕ) {m : ℕ} {k : KindFound} → k ≡ kindOf m → m ≡ 2 * (n - 1) → none k ≡ wrongLength n
 unfolding wrongLength
-none-is n e = ap none e
+none-is n e f = ap none (e ∙ ap kindOf f)
 
 -- 2^m + 1 lines are those of a block of 2^(m + 1) cells
 same-length : (m n : ℕ) → eqb (2 ^ suc m) (2 * (n - 1)) ≡ eqb n (2 ^ m + 1)

@@ -1,7 +1,7 @@
 -- The nearest line, looked for outwards: as long as no line at a smaller distance reaches the level, a line that does at this distance is the nearest, the
 -- one below before the one above; and what has the relation `Nearest` is what the definition gives.
 -- Example: `below-found ps v level far none c h r : Nearest ps v level (v - far)`, with r : reaches (cell ps (v - far)) level ≡ true.
-use mathlib.Core.Path.{_≡_, refl, subst}
+use mathlib.Core.Path.{_≡_, refl, sym, _∙_, ap, subst}
 use mathlib.Core.Bool.{Bool, true, false}
 use mathlib.Core.List.{List}
 use mathlib.Core.Logic.{_⊎_, inl, inr}
@@ -16,9 +16,13 @@ use lib.Signed.{_≤ℤ_}
 use Rattle.ints.specs.Cells.{cell}
 use Rattle.search.specs.declared.SearchAnswer.the-variants.{Found, None}
 use Rattle.search.specs.Search.{Nearest, distance, nearest, reaches}
-use Rattle.search.specs.Inner.{NoneWithin}
+use Rattle.search.specs.Inner.{NoneWithin, ReachesAt}
 use Rattle.search.proofs.Lowest.{best-is, best-none, one-outcome}
 use Rattle.search.proofs.Powers.{reached, reaches-so}
+
+-- the line u that was compared is w
+pub at-line : {ps : List ℤ} {u : ℕ} (w : ℕ) {level : ℤ} {r : Bool} (t : Bool) → ReachesAt ps u level r → u ≡ w → r ≡ t → reaches (cell ps w) level ≡ t
+at-line {ps} w {level} t c e f = ap (λ (v : ℕ). reaches (cell ps v) level) (sym e) ∙ sym (c .is) ∙ f
 
 module _ (ps : List ℤ) (v : ℕ) (level : ℤ) where
   -- ---- what the definition gives

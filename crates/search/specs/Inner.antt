@@ -1,6 +1,6 @@
 -- What the inner functions ask of their callers and leave. None of it stands in a public promise.
 use mathlib.Core.Path.{_≡_}
-use mathlib.Core.Bool.{false, cond}
+use mathlib.Core.Bool.{Bool, false, cond}
 use mathlib.Core.List.{List}
 use mathlib.Core.Logic.{_⊎_}
 use Prim.Native.Nat.{ℕ, _≤_, _<_}
@@ -13,6 +13,10 @@ use Rattle.search.specs.Search.{distance, reaches}
 -- the strongest line so far, once line v is looked at, which has this power and lies above the others
 abbrev pub stronger : Peak → ℕ → ℤ → Peak
 stronger peak v power = cond (reaches (peak .power) power) peak (record { line = v; power = power })
+
+-- r says whether the power of line v reaches the level
+pub record ReachesAt (ps : List ℤ) (v : ℕ) (level : ℤ) (r : Bool) : Type 0 where
+  pub is : r ≡ reaches (cell ps v) level
 
 -- no line of the list that is less than `far` from line v reaches the level
 pub record NoneWithin (ps : List ℤ) (v : ℕ) (level : ℤ) (far : ℕ) : Type 0 where

@@ -10,7 +10,7 @@ use Rattle.search.specs.declared.SearchAnswer.the-variants.{Found, None,
 use Rattle.search.specs.declared.SearchVerdict.{SearchVerdict}
 use Rattle.search.specs.declared.SearchVerdict.the-variants.{Taken, Refused as SearchRefused}
 use Rattle.search.specs.Search.{strongest, nearest}
-use Rattle.search.specs.SearchTests.{firstGiven, testedBand, testedChosen, bandRows, chosenRows}
+use Rattle.search.specs.SearchTests.{absent, bandRows, chosenRows, firstGiven, testedBand, testedChosen}
 
 -- what is found where the checks are passed, else the refusal
 abbrev pub answerTo : SearchVerdict → SearchAnswer → SearchAnswer
@@ -33,9 +33,9 @@ searchNumbers None = []
 searchNumbers (Refused refusal) = number refusal ∷ place refusal ∷ []
 
 unfoldable pub strongestNumbers : List ℤ → ℕ → ℕ → List ℕ
-unfolding strongest firstGiven
+unfolding strongest firstGiven absent
 strongestNumbers ps low high = firstGiven (bandRows (length ps) low high) (searchNumbers (strongest ps low high))
 
 unfoldable pub nearestNumbers : List ℤ → ℕ → ℤ → List ℕ
-unfolding nearest firstGiven
+unfolding nearest firstGiven absent
 nearestNumbers ps chosen level = firstGiven (chosenRows (length ps) chosen) (searchNumbers (nearest ps chosen level))

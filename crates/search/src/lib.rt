@@ -12,7 +12,7 @@ ghost use Rattle.ints.specs.Cells.{cell};
 ghost use Rattle.search.specs.Search.{Strongest, nearest, reaches};
 ghost use Rattle.search.specs.SearchTests.{testedBand, testedChosen, wrongLength};
 ghost use Rattle.search.specs.SearchAnswers.{nearestAnswer, nearestNumbers, searchNumbers, strongestAnswer, strongestNumbers};
-ghost use Rattle.search.specs.Inner.{NoneWithin, Smaller, stronger};
+ghost use Rattle.search.specs.Inner.{NoneWithin, ReachesAt, Smaller, stronger};
 
 // What a search answers: the line that it has found, that there is none, or why it was not made. There is always a strongest line.
 pub enum SearchAnswer {
@@ -62,14 +62,16 @@ pub fn tested_band(cells: usize, low: Line, high: Line) -> SearchVerdict
     if wrong_length(cells) {
         return SearchVerdict::Refused(Refusal::Length);
     }
+    let from = low.0;
+    let to = high.0;
     let last = cells - 1;
-    if last < low.0 {
+    if last < from {
         return SearchVerdict::Refused(Refusal::Line(low));
     }
-    if last < high.0 {
+    if last < to {
         return SearchVerdict::Refused(Refusal::Line(high));
     }
-    if high.0 < low.0 {
+    if to < from {
         return SearchVerdict::Refused(Refusal::Line(low));
     }
     SearchVerdict::Taken
@@ -161,11 +163,9 @@ fn larger(a: i64, b: i64) -> i64
 pub fn stronger(peak: Peak, v: usize, power: i64) -> Peak
     ensures { λ r. ⌜ r ≡ stronger peak v power ⌝ }
 {
-    if reaches(peak.power, power) {
-        peak
-    } else {
-        Peak { line: v, power }
-    }
+    let next = Peak { line: v, power };
+    let kept = reaches(peak.power, power);
+    if kept { peak } else { next }
 }
 
 // Whether a power reaches a level. This is the only comparison of powers.
@@ -238,7 +238,7 @@ fn look_below(powers: &[i64], v: usize, start: usize, level: i64) -> SearchAnswe
 // Whether the power of line v reaches the level.
 fn reaches_at(powers: &[i64], v: usize, level: i64) -> bool
     requires { ⌜ v < length (now powers) ⌝ }
-    ensures { λ r. ⌜ r ≡ reaches (cell (now (powers .entry)) v) level ⌝ }
+    ensures { λ r. ⌜ ReachesAt (now (powers .entry)) v level r ⌝ }
 {
     reaches(power_at(powers, v), level)
 }

@@ -9,9 +9,9 @@ ghost use Prim.Native.Nat.{_+_, _≤_, _<_};
 ghost use lib.ListN.{length};
 ghost use Rattle.ints.specs.Cells.{cell};
 ghost use Rattle.cell_bytes.specs.CellBytes.{cellsIn};
-ghost use Rattle.search.specs.Search.{Strongest, nearest, reaches};
+ghost use Rattle.search.specs.Search.{Strongest, nearest};
 ghost use Rattle.search.specs.SearchAnswers.{nearestAnswer, strongestAnswer};
-ghost use Rattle.search.specs.Inner.{NoneWithin};
+ghost use Rattle.search.specs.Inner.{NoneWithin, ReachesAt};
 
 // The strongest line from low to high of the powers that the bytes spell.
 pub fn strongest(powers: &[u8], low: Line, high: Line) -> SearchAnswer
@@ -130,7 +130,7 @@ fn look_below(powers: &[u8], v: usize, start: usize, level: i64) -> SearchAnswer
 // Whether the power of line v reaches the level.
 fn reaches_at(powers: &[u8], v: usize, level: i64) -> bool
     requires { ⌜ v < length (cellsIn (now powers)) ⌝ }
-    ensures { λ r. ⌜ r ≡ reaches (cell (cellsIn (now (powers .entry))) v) level ⌝ }
+    ensures { λ r. ⌜ ReachesAt (cellsIn (now (powers .entry))) v level r ⌝ }
 {
     search::reaches(power_at(powers, v), level)
 }

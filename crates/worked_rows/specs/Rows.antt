@@ -1,20 +1,27 @@
 -- Document 01, Samples worked by hand: those with a star, as rows of one table; the third is as document 02, Item 1 amends it. After them two more for that
--- item, and some fine cosines, worked by the rule of document 01, Cosines, apart from these definitions. That every row holds is proved in proofs/RowsHold.antt.
+-- item, some fine cosines, worked by the rule of document 01, Cosines, apart from these definitions, and searches by document 02, Item 2. That every row holds
+-- is proved in proofs/RowsHold.antt.
 use mathlib.Core.Path.{_≡_}
-use mathlib.Core.List.{List, [], _∷_, map}
+use mathlib.Core.List.{List, [], _∷_, _++_, map}
 use lib.IntN.{ℤ, pos, negℤ, _*ℤ_}
+use lib.ListN.{take}
 use Rattle.ints.specs.Quotient.{rounded}
 use Rattle.kind.specs.BlockKinds.{SCALE, SCALE-DIGITS}
 use Rattle.cosine.specs.Cosine.{fine, quarterTable}
 use Rattle.spectrum.specs.Spectrum.{forward, backward}
+use Rattle.search.specs.SearchAnswers.{nearestNumbers, strongestNumbers}
 
 -- what a definition gives, and what the papers say that it gives
 pub record Row : Type 0 where
   pub given : List ℤ
   pub said : List ℤ
 
+-- the powers of the searches
+abbrev powers : List ℤ
+powers = pos 5 ∷ pos 9 ∷ pos 9 ∷ pos 2 ∷ pos 9 ∷ []
+
 unfoldable pub rows : List Row
-unfolding rounded fine quarterTable forward backward
+unfolding rounded fine quarterTable forward backward strongestNumbers nearestNumbers
 rows =
     -- T at 0, 64, 128, 192, 256
     record {
@@ -48,6 +55,17 @@ rows =
     ∷ record {
       given = map (λ j. pos (fine j)) (1 ∷ 64 ∷ 128 ∷ 192 ∷ 255 ∷ []);
       said = pos 1152899801185339686 ∷ pos 1065160580698383124 ∷ pos 815238614083298888 ∷ pos 441203958630471860 ∷ pos 7074193361797262 ∷ [];
+    }
+    -- document 02, Item 2, in the powers {5, 9, 9, 2, 9}: the strongest line from 0 to 4, from 2 to 4 and from 3 to 3
+    ∷ record { given = map pos (strongestNumbers powers 0 4 ++ strongestNumbers powers 2 4 ++ strongestNumbers powers 3 3); said = pos 1 ∷ pos 2 ∷ pos 3 ∷ [] }
+    -- the line nearest to 3 that reaches 9, lines 2 and 4 being equally near, and that reaches 2; and the one nearest to 0 that reaches 9
+    ∷ record { given = map pos (nearestNumbers powers 3 (pos 9) ++ nearestNumbers powers 3 (pos 2) ++ nearestNumbers powers 0 (pos 9)); said = pos 2 ∷ pos 3 ∷ pos 1 ∷ [] }
+    -- no line reaches 10
+    ∷ record { given = map pos (nearestNumbers powers 3 (pos 10)); said = [] }
+    -- 4 for the low end 5, the high end 5, the low end 6 before the high end 5, a band from 3 to 1, and the chosen line 5; and 1 before 4 for four powers
+    ∷ record {
+      given = map pos (strongestNumbers powers 5 4 ++ strongestNumbers powers 0 5 ++ strongestNumbers powers 6 5 ++ strongestNumbers powers 3 1 ++ nearestNumbers powers 5 (pos 9) ++ strongestNumbers (take 4 powers) 9 0);
+      said = map pos (4 ∷ 5 ∷ 4 ∷ 5 ∷ 4 ∷ 6 ∷ 4 ∷ 3 ∷ 4 ∷ 5 ∷ 1 ∷ 0 ∷ []);
     }
     ∷ []
 

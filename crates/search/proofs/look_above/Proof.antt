@@ -1,5 +1,6 @@
 -- `look_above` is right because no line at a smaller distance reaches the level, and there is no line below at this one.
-use mathlib.Core.Path.{_≡_, sym, _∙_}
+use mathlib.Core.Path.{sym}
+use mathlib.Core.Bool.{true, false}
 use Prim.Native.Nat.{_+_, _-_, _≤_, _<_}
 use native.Mathlib.Omega.{arith}
 use lib.ListN.{length}
@@ -7,10 +8,8 @@ use mir.Facts.{toZ-ofZ}
 use mir.Syntax.{w64}
 use mir.Val.{toZ}
 use denote.Ref.{now}
-use Rattle.ints.specs.Cells.{cell}
-use Rattle.search.specs.Search.{reaches}
 use Rattle.search.specs.Inner.{NoneWithin}
-use Rattle.search.proofs.Outwards.{above-found, nearest-is, none-left, none-next}
+use Rattle.search.proofs.Outwards.{above-found, at-line, nearest-is, none-left, none-next}
 use Rattle.search.proofs.look_above.Statement.{statement}
 use Rattle.search.proofs.look_above.Tie as tie
 
@@ -20,17 +19,13 @@ Inv-loop powers v start level last far₀ far = (v < far) × NoneWithin powers v
 abbrev μ-loop : tie.MeasureT-loop
 μ-loop powers v start level last far₀ far = length powers - far
 
--- ---- what is known at the loop, and once a line is compared
+-- ---- what is known at the loop
 
 abbrev start : tie.At-loop Inv-loop μ-loop → tie.Start Inv-loop μ-loop
 start a = a .before
 
 none : (a : tie.At-loop Inv-loop μ-loop) → NoneWithin (now (start a .args .powers)) (start a .args .v) (start a .args .level) (a .loop .far)
 none a = simp (toZ-ofZ (start a .fits .level)) at (a .loop .inv .1)
-
-compared : (c : tie.After-reaches-at Inv-loop μ-loop) → let a = c .before .before in
-    c .reaches-at .result ≡ reaches (cell (now (start a .args .powers)) (start a .args .v + a .loop .far)) (start a .args .level)
-compared c = simp (toZ-ofZ (start (c .before .before) .fits .level)) at (c .reaches-at .ensures)
 
 -- ---- the needs
 
@@ -54,7 +49,7 @@ add-t12 c = omega arith
 
 returns : tie.Need-returns Inv-loop μ-loop
 returns c = let a = c .before .before .before in
-    sym (nearest-is _ _ _ _ (above-found _ _ _ (a .loop .far) (none a) (λ h. absurd (omega arith)) (omega arith) (sym (compared (c .before)) ∙ c .if1 .taken)))
+    sym (nearest-is _ _ _ _ (above-found _ _ _ (a .loop .far) (none a) (λ h. absurd (omega arith)) (omega arith) (at-line _ true (simp (toZ-ofZ (start a .fits .level)) at (c .before .reaches-at .ensures)) (omega arith) (c .if1 .taken))))
 
 add-far : tie.Need-add-far Inv-loop μ-loop
 add-far c = omega arith
@@ -64,7 +59,7 @@ loop-less c = omega arith
 
 loop-again : tie.Need-loop-again Inv-loop μ-loop
 loop-again c = let a = c .before .before .before in
-    (omega arith, simp (toZ-ofZ (start a .fits .level)) (none-next _ _ _ (a .loop .far) (none a) (λ h. absurd (omega arith)) (λ h. sym (compared (c .before)) ∙ c .if1 .left)))
+    (omega arith, simp (toZ-ofZ (start a .fits .level)) (none-next _ _ _ (a .loop .far) (none a) (λ h. absurd (omega arith)) (λ h. at-line _ false (simp (toZ-ofZ (start a .fits .level)) at (c .before .reaches-at .ensures)) (omega arith) (c .if1 .left))))
 
 returns-2 : tie.Need-returns-2 Inv-loop μ-loop
 returns-2 c = sym (none-left _ _ _ (c .before .loop .far) (none (c .before)) (omega arith) (omega arith))

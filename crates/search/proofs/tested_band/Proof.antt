@@ -11,16 +11,6 @@ use Rattle.search.proofs.tested_band.Tie as tie
 right : (c : tie.Else1) → wrongLength (c .before .before .args .cells) ≡ false
 right c = sym (c .before .wrong-length .ensures) ∙ c .if1 .left
 
--- ---- the points that the answers go back to, from the last check that was passed
-
-abbrev low-at : tie.Else2 → tie.Else1
-low-at c = c .before .before
-
-abbrev high-at : tie.Else3 → tie.Else2
-high-at c = c .before .before
-
--- ---- the needs
-
 wrong-length-requires : tie.Need-wrong-length-requires
 wrong-length-requires c κs = tt
 
@@ -31,16 +21,16 @@ sub-last : tie.Need-sub-last
 sub-last c = some-power _ (right c)
 
 returns-2 : tie.Need-returns-2
-returns-2 c = low-beyond _ _ _ (right (c .before .before)) (omega arith)
+returns-2 c = low-beyond _ _ _ (right (c .before)) (omega arith)
 
 returns-3 : tie.Need-returns-3
-returns-3 c = high-beyond _ _ _ (right (low-at (c .before .before))) (omega arith) (omega arith)
+returns-3 c = high-beyond _ _ _ (right (c .before .before)) (omega arith) (omega arith)
 
 returns-4 : tie.Need-returns-4
-returns-4 c = turned-round _ _ _ (right (low-at (high-at (c .before .before .before)))) (omega arith) (omega arith) (omega arith)
+returns-4 c = turned-round _ _ _ (right (c .before .before .before)) (omega arith) (omega arith) (omega arith)
 
 returns-5 : tie.Need-returns-5
-returns-5 c = band-taken _ _ _ (right (low-at (high-at (c .before .before .before)))) (omega arith) (omega arith) (omega arith)
+returns-5 c = band-taken _ _ _ (right (c .before .before .before)) (omega arith) (omega arith) (omega arith)
 
 pub tested-band-spec : {M : Type 1} → statement M
 tested-band-spec = tie.close (tie.spec wrong-length-requires returns sub-last returns-2 returns-3 returns-4 returns-5)

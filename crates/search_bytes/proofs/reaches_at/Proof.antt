@@ -17,7 +17,7 @@ reaches-requires c κs = tt
 
 returns : tie.Need-returns
 returns c = let p = c .before .power-at in let s = c .before .before .before in let back : toZ w64 (ofZ w64 (p .result)) ≡ p .result = toZ-ofZ (sfits-of (p .ok)) in
-    (simp (back, toZ-ofZ (s .fits .level)) at (c .reaches .ensures)) ∙ ap (λ (power : ℤ). reaches power (s .args .level)) (p .ensures)
+    record { is = (simp (back, toZ-ofZ (s .fits .level)) at (c .reaches .ensures)) ∙ ap (λ (power : ℤ). reaches power (s .args .level)) (p .ensures) }
 
 pub reaches-at-spec : {M : Type 1} → statement M
 reaches-at-spec = tie.close (tie.spec power-at-requires reaches-requires returns)

@@ -1,10 +1,12 @@
 -- `strongest` is right because it makes the checks by the number of powers that the bytes spell, and then looks through the band.
 use mathlib.Core.Path.{_≡_, refl, sym, _∙_, ap}
 use Prim.Native.Nat.{ℕ}
+use native.Mathlib.Omega.{arith}
 use lib.ListN.{length}
 use denote.Ref.{now}
 use Rattle.cell_bytes.specs.CellBytes.{cellsIn}
 use Rattle.cell_bytes.proofs.CellsRead.{count-all}
+use Rattle.kind.specs.declared.Line.{Line}
 use Rattle.search.specs.declared.SearchVerdict.{SearchVerdict}
 use Rattle.search.specs.declared.SearchVerdict.the-variants.{Taken}
 use Rattle.search.specs.SearchTests.{testedBand}
@@ -15,9 +17,12 @@ use Rattle.search_bytes.proofs.strongest.Tie as tie
 
 -- ---- the checks by the powers that the bytes spell, and what they tell of a band that they have taken
 
+-- n powers are as many as the bytes spell
+by-count : {k : SearchVerdict} {n m : ℕ} (low high : Line) → k ≡ testedBand n low high → n ≡ m → k ≡ testedBand m low high
+by-count low high e f = e ∙ ap (λ (n : ℕ). testedBand n low high) f
+
 checked : (c : tie.After-tested-band) → let a = c .before .before .before .args in c .tested-band .result ≡ testedBand (length (cellsIn (now (a .powers)))) (a .low) (a .high)
-checked c = let a = c .before .before .before .args in
-    c .tested-band .ensures ∙ ap (λ (n : ℕ). testedBand n (a .low) (a .high)) (c .before .cell-count .ensures .0 ∙ count-all (now (a .powers)))
+checked c = by-count _ _ (c .tested-band .ensures) (omega (arith, c .before .cell-count .ensures .0, count-all (now (c .before .before .before .args .powers))))
 
 known : (c : tie.After-enum-told) → let a = c .before .before .before .before .before .args in BandTaken (length (cellsIn (now (a .powers)))) (a .low) (a .high)
 known c = band-known _ _ _ (sym (checked (c .before .before)) ∙ c .enum-told .given .1)
