@@ -1,8 +1,8 @@
 -- The strongest line of a band: a line is the strongest of itself; of a band with one line more it is the strongest before or that line; and what has the
 -- relation `Strongest` is what the definition gives.
 -- Example: `strongest-is ps low high v h s : strongest ps low high ≡ Found (record { 0 = v })`, with h : high < length ps and s : Strongest ps low high v.
-use mathlib.Core.Path.{_≡_, refl, sym, _∙_, ap, subst}
-use mathlib.Core.Bool.{Bool, true, false, cond, not, _&&_}
+use mathlib.Core.Path.{_≡_, refl}
+use mathlib.Core.Bool.{Bool, true, false, cond, _&&_}
 use mathlib.Core.List.{List}
 use mathlib.Core.Logic.{_⊎_, inl, inr}
 use Prim.Native.Nat.{ℕ, _+_, _-_, _≤_, _<_}
@@ -16,7 +16,7 @@ use lib.Signed.{_≤ℤ_, _<ℤ_, ≤ℤ-refl}
 use Rattle.ints.specs.Cells.{cell}
 use Rattle.search.specs.declared.Peak.{Peak}
 use Rattle.search.specs.declared.SearchAnswer.the-variants.{Found}
-use Rattle.search.specs.Search.{Strongest, reaches, strongest}
+use Rattle.search.specs.Search.{Strongest, inBand, isStronger, reaches, strongest}
 use Rattle.search.specs.Inner.{stronger}
 use Rattle.search.proofs.Lowest.{best-is, one-outcome}
 use Rattle.search.proofs.Powers.{at-most-less, at-most-on, less-at-most, reached, reaches-not, reaches-so, unreached}
@@ -87,10 +87,10 @@ module _ (ps : List ℤ) where
   -- ---- what the definition gives
 
   module _ (low high v : ℕ) (in-list : high < length ps) (s : Strongest ps low high v) where
-    in-band : {w : ℕ} → low ≤ w → w ≤ high → (leb low w && leb w high) ≡ true
+    in-band : {w : ℕ} → low ≤ w → w ≤ high → inBand low high w ≡ true
     in-band {w} a b = rw (le-leb low w a, le-leb w high b) refl
 
-    band-ends : (w : ℕ) → (leb low w && leb w high) ≡ true → (low ≤ w) × (w ≤ high)
+    band-ends : (w : ℕ) → inBand low high w ≡ true → (low ≤ w) × (w ≤ high)
     band-ends w e = go (leb low w) (leb w high) refl refl e
       where
         go : (t u : Bool) → leb low w ≡ t → leb w high ≡ u → (t && u) ≡ true → (low ≤ w) × (w ≤ high)
@@ -100,7 +100,7 @@ module _ (ps : List ℤ) where
 
     pub strongest-is : strongest ps low high ≡ Found (record { 0 = v })
     unfolding strongest
-    strongest-is = best-is (λ v. leb low v && leb v high) (λ w v. not (reaches (cell ps v) (cell ps w))) (length ps) v (omega (arith, s .to)) (in-band (s .from) (s .to))
+    strongest-is = best-is (inBand low high) (isStronger ps) (length ps) v (omega (arith, s .to)) (in-band (s .from) (s .to))
         (λ w a b. let e = band-ends w b in rw (reaches-so (s .none-stronger w (e .0) (e .1))) refl)
         (λ w a b. let e = band-ends w b in rw (reaches-not (s .none-lower w (e .0) a)) refl)
 

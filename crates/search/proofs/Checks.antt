@@ -1,29 +1,28 @@
 -- The checks of a search: which lengths a list of powers can have, what is known of what is taken, and that the checks say in numbers what the rows say.
 -- Example: `strongest-numbers ps low high : searchNumbers (strongestAnswer ps low high) ≡ strongestNumbers ps (low .0) (high .0)`.
 use mathlib.Core.Path.{_≡_, refl, sym, _∙_, ap}
-use mathlib.Core.Bool.{Bool, true, false, cond, not, _&&_}
+use mathlib.Core.Bool.{Bool, true, false, cond}
 use mathlib.Core.List.{List, [], _∷_}
 use Prim.Native.Nat.{ℕ, zero, suc, _+_, _*_, _-_, _^_, _≤_, _<_}
 use native.Mathlib.Omega.{arith}
 use borrow.Author.Tests.{eq-eqb, eqb-true, eqb-false, ne-eqb, lt-ltb, le-ltb, ltb-true, ltb-false}
-use lib.Dec.{eqb, leb, ltb}
+use lib.Dec.{eqb, ltb}
 use lib.IntN.{ℤ}
 use lib.ListN.{length}
 use lib.Pow.{pow-mono, pow-pos}
 use Rattle.ints.specs.Cells.{cell}
 use Rattle.kind.specs.declared.KindFound.{KindFound}
-use Rattle.kind.specs.declared.KindFound.the-variants.{None}
 use Rattle.kind.specs.declared.Line.{Line}
 use Rattle.kind.specs.BlockKinds.{exponent, found, kindOf}
-use Rattle.kind.proofs.Lengths.{Kind-length, kind-none}
+use Rattle.kind.proofs.Lengths.{kind-none}
 use Rattle.refusal.specs.declared.Refusal.{Refusal}
 use Rattle.refusal.specs.declared.Refusal.the-variants.{Length, Line as LineAbove}
 use Rattle.search.specs.declared.SearchAnswer.{SearchAnswer}
 use Rattle.search.specs.declared.SearchAnswer.the-variants.{Found, Refused as SearchRefused}
 use Rattle.search.specs.declared.SearchVerdict.{SearchVerdict}
 use Rattle.search.specs.declared.SearchVerdict.the-variants.{Taken, Refused}
-use Rattle.search.specs.Search.{distance, nearest, reaches, strongest}
-use Rattle.search.specs.SearchTests.{absent, bandRows, chosenRows, firstGiven, lengthRow, none, testedBand, testedChosen, wrongLength}
+use Rattle.search.specs.Search.{inBand, isNearer, isStronger, nearest, reaches, strongest}
+use Rattle.search.specs.SearchTests.{absent, firstGiven, lengthRow, none, testedBand, testedChosen, wrongLength}
 use Rattle.search.proofs.Lowest.{best-below, best-unrefused, one-outcome}
 use Rattle.search.specs.SearchAnswers.{answerTo, nearestAnswer, nearestNumbers, searchNumbers, strongestAnswer, strongestNumbers}
 
@@ -200,16 +199,16 @@ module _ (ps : List ℤ) (chosen : Line) (level : ℤ) {k : SearchVerdict} (e : 
 module _ (ps : List ℤ) where
   pub strongest-listed : (low high line : Line) → strongest ps (low .0) (high .0) ≡ Found line → line .0 < length ps
   unfolding strongest
-  strongest-listed low high line e = best-below (λ v. leb (low .0) v && leb v (high .0)) (λ w v. not (reaches (cell ps v) (cell ps w))) (length ps) line e
+  strongest-listed low high line e = best-below (inBand (low .0) (high .0)) (isStronger ps) (length ps) line e
 
   pub strongest-unrefused : (low high : Line) (refusal : Refusal) → strongest ps (low .0) (high .0) ≡ SearchRefused refusal → ⊥
   unfolding strongest
-  strongest-unrefused low high refusal e = best-unrefused (λ v. leb (low .0) v && leb v (high .0)) (λ w v. not (reaches (cell ps v) (cell ps w))) (length ps) refusal e
+  strongest-unrefused low high refusal e = best-unrefused (inBand (low .0) (high .0)) (isStronger ps) (length ps) refusal e
 
   pub nearest-listed : (chosen : Line) (level : ℤ) (line : Line) → nearest ps (chosen .0) level ≡ Found line → line .0 < length ps
   unfolding nearest
-  nearest-listed chosen level line e = best-below (λ v. reaches (cell ps v) level) (λ w v. ltb (distance (chosen .0) w) (distance (chosen .0) v)) (length ps) line e
+  nearest-listed chosen level line e = best-below (λ v. reaches (cell ps v) level) (isNearer (chosen .0)) (length ps) line e
 
   pub nearest-unrefused : (chosen : Line) (level : ℤ) (refusal : Refusal) → nearest ps (chosen .0) level ≡ SearchRefused refusal → ⊥
   unfolding nearest
-  nearest-unrefused chosen level refusal e = best-unrefused (λ v. reaches (cell ps v) level) (λ w v. ltb (distance (chosen .0) w) (distance (chosen .0) v)) (length ps) refusal e
+  nearest-unrefused chosen level refusal e = best-unrefused (λ v. reaches (cell ps v) level) (isNearer (chosen .0)) (length ps) refusal e

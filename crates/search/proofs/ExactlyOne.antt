@@ -1,6 +1,6 @@
 -- Exactly one line is the strongest of a band, and exactly one is the nearest that reaches a level, unless none reaches it: the definitions give these lines.
 -- Example: `strongest-exactly ps low high h k .line : ℕ`, the line, with h : low ≤ high and k : high < length ps.
-use mathlib.Core.Path.{_≡_, refl, sym, _∙_, ap, subst}
+use mathlib.Core.Path.{_≡_, refl}
 use mathlib.Core.Bool.{Bool, true, false, _&&_}
 use mathlib.Core.List.{List}
 use mathlib.Core.Logic.{_⊎_, inl, inr}
@@ -15,7 +15,7 @@ use Rattle.ints.specs.Cells.{cell}
 use Rattle.search.specs.declared.Peak.{Peak}
 use Rattle.search.specs.declared.SearchAnswer.{SearchAnswer}
 use Rattle.search.specs.declared.SearchAnswer.the-variants.{Found, None}
-use Rattle.search.specs.Search.{Nearest, Strongest, distance, nearest, reaches, strongest}
+use Rattle.search.specs.Search.{Nearest, Strongest, nearest, reaches, strongest}
 use Rattle.search.specs.Inner.{NoneWithin}
 use Rattle.search.proofs.Lowest.{one-outcome}
 use Rattle.search.proofs.Powers.{reaches-so}

@@ -15,7 +15,7 @@ use lib.ListN.{length}
 use lib.Signed.{_≤ℤ_}
 use Rattle.ints.specs.Cells.{cell}
 use Rattle.search.specs.declared.SearchAnswer.the-variants.{Found, None}
-use Rattle.search.specs.Search.{Nearest, distance, nearest, reaches}
+use Rattle.search.specs.Search.{Nearest, distance, isNearer, nearest, reaches}
 use Rattle.search.specs.Inner.{NoneWithin, ReachesAt}
 use Rattle.search.proofs.Lowest.{best-is, best-none, one-outcome}
 use Rattle.search.proofs.Powers.{reached, reaches-so}
@@ -29,12 +29,12 @@ module _ (ps : List ℤ) (v : ℕ) (level : ℤ) where
 
   pub nearest-is : (near : ℕ) → Nearest ps v level near → nearest ps v level ≡ Found (record { 0 = near })
   unfolding nearest
-  nearest-is near n = best-is (λ w. reaches (cell ps w) level) (λ w u. ltb (distance v w) (distance v u)) (length ps) near (n .listed) (reaches-so (n .reached))
+  nearest-is near n = best-is (λ w. reaches (cell ps w) level) (isNearer v) (length ps) near (n .listed) (reaches-so (n .reached))
       (λ w a b. le-ltb _ _ (n .none-nearer w a (reached b))) (λ w a b. lt-ltb _ _ (n .none-lower w a (reached b)))
 
   pub nearest-none : ((w : ℕ) → w < length ps → reaches (cell ps w) level ≡ false) → nearest ps v level ≡ None
   unfolding nearest
-  nearest-none h = best-none (λ w. reaches (cell ps w) level) (λ w u. ltb (distance v w) (distance v u)) (length ps) h
+  nearest-none h = best-none (λ w. reaches (cell ps w) level) (isNearer v) (length ps) h
 
   -- ---- one distance after another
 

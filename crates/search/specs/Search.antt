@@ -12,15 +12,26 @@ use Rattle.ints.specs.Cells.{cell}
 use Rattle.search.specs.declared.SearchAnswer.{SearchAnswer}
 use Rattle.search.specs.declared.SearchAnswer.the-variants.{Found, None}
 
--- ---- two comparisons
+-- ---- comparisons
 
 -- whether a power reaches a level, that is, is at least as large; the only comparison of powers
 unfoldable pub reaches : ℤ → ℤ → Bool
 reaches power level = leZ level power
 
--- how far two lines are apart
+-- whether line w is stronger than line v: the power of v does not reach that of w
+abbrev pub isStronger : List ℤ → ℕ → ℕ → Bool
+isStronger ps w v = not (reaches (cell ps v) (cell ps w))
+
+-- how far two lines are apart, and whether line w is nearer to the chosen one than line v
 abbrev pub distance : ℕ → ℕ → ℕ
 distance v w = (v - w) + (w - v)
+
+abbrev pub isNearer : ℕ → ℕ → ℕ → Bool
+isNearer chosen w v = ltb (distance chosen w) (distance chosen v)
+
+-- whether line v lies between two lines, both included
+abbrev pub inBand : ℕ → ℕ → ℕ → Bool
+inBand low high v = leb low v && leb v high
 
 -- ---- lines that pass a test: of n lines from v on, whether there is one, and the lowest, or none
 
@@ -32,21 +43,21 @@ unfoldable pub lowest : (ℕ → Bool) → ℕ → ℕ → SearchAnswer
 lowest test v zero = None
 lowest test v (suc n) = cond (test v) (Found (record { 0 = v })) (lowest test (suc v) n)
 
--- of n lines, the lowest that is among some and is beaten by none of them
+-- of those of n lines that are among some, the lowest that none of them beats; none where there are no such lines
 abbrev pub best : (ℕ → Bool) → (ℕ → ℕ → Bool) → ℕ → SearchAnswer
 best among beats n = lowest (λ v. among v && not (some (λ w. among w && beats w v) 0 n)) 0 n
 
 -- ---- the two searches
 
--- the strongest line from low to high, both included: none of these lines is stronger; the lowest of equals
+-- the strongest line between two lines, both included: the lowest of equals
 unfoldable pub strongest : List ℤ → ℕ → ℕ → SearchAnswer
 unfolding some lowest reaches
-strongest ps low high = best (λ v. leb low v && leb v high) (λ w v. not (reaches (cell ps v) (cell ps w))) (length ps)
+strongest ps low high = best (inBand low high) (isStronger ps) (length ps)
 
--- the line nearest to the chosen one whose power reaches the level: none of those that reach it is nearer; the lower of two equally near
+-- the line nearest to a chosen one whose power reaches a given level: the lower of two equally near; none where no line reaches it
 unfoldable pub nearest : List ℤ → ℕ → ℤ → SearchAnswer
 unfolding some lowest reaches
-nearest ps chosen level = best (λ v. reaches (cell ps v) level) (λ w v. ltb (distance chosen w) (distance chosen v)) (length ps)
+nearest ps chosen level = best (λ v. reaches (cell ps v) level) (isNearer chosen) (length ps)
 
 -- ---- the same as relations; that exactly one line has each of them is proved in proofs/ExactlyOne.antt
 

@@ -1,12 +1,12 @@
 -- Document 02's numbers in the packed answer of a search: the line that is found fits its two bytes, and the line of a refusal 4 is one that the host has given.
 -- Example: `strongest-told ps low high e : unpackedSearch (endAsked (length ps) (low .0) (high .0)) answer ≡ strongestNumbers ps (low .0) (high .0)`, with
 -- e : answer ≡ packedSearch (strongestAnswer ps low high).
-use mathlib.Core.Path.{_≡_, refl, sym, _∙_, ap, subst}
-use mathlib.Core.Bool.{Bool, true, false, _||_}
+use mathlib.Core.Path.{_≡_, refl, _∙_, ap, subst}
+use mathlib.Core.Bool.{Bool, true, false}
 use mathlib.Core.List.{List}
-use Prim.Native.Nat.{ℕ, _-_, _^_, _≤_, _<_}
+use Prim.Native.Nat.{ℕ, _-_, _≤_, _<_}
 use native.Mathlib.Omega.{arith}
-use borrow.Author.Tests.{lt-ltb, le-ltb, ltb-true, ltb-false}
+use borrow.Author.Tests.{le-ltb, ltb-true, ltb-false}
 use lib.Dec.{ltb}
 use lib.IntN.{ℤ}
 use lib.ListN.{length}

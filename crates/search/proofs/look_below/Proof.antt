@@ -1,7 +1,7 @@
 -- `look_below` is right because no line at a smaller distance reaches the level, and there is no line above at this one.
 use mathlib.Core.Path.{sym}
 use mathlib.Core.Bool.{true, false}
-use Prim.Native.Nat.{_+_, _-_, _≤_, _<_}
+use Prim.Native.Nat.{_+_, _-_, _≤_}
 use native.Mathlib.Omega.{arith}
 use lib.ListN.{length}
 use mir.Facts.{toZ-ofZ}

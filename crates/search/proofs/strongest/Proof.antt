@@ -1,5 +1,5 @@
 -- `strongest` is right because its checks are the definition's, and a line that has the relation `Strongest` is the definition's.
-use mathlib.Core.Path.{_≡_, refl, sym, _∙_}
+use mathlib.Core.Path.{refl, sym, _∙_}
 use lib.ListN.{length}
 use denote.Ref.{now}
 use Rattle.search.specs.declared.SearchVerdict.the-variants.{Taken}

@@ -1,6 +1,6 @@
 -- `wrong_length` is right because a list of powers has between one cell and as many as a block, and then `of_len` decides.
 use borrow.Author.Needs.{needs}
-use mathlib.Core.Path.{_≡_, sym, _∙_, ap}
+use mathlib.Core.Path.{sym, _∙_, ap}
 use native.Mathlib.Omega.{arith}
 use Rattle.search.specs.SearchTests.{none}
 use Rattle.search.proofs.Checks.{no-power, none-is, too-many}

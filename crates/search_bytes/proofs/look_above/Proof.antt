@@ -1,9 +1,8 @@
 -- `look_above` is right because no line at a smaller distance reaches the level, and there is no line below at this one.
 use mathlib.Core.Path.{sym}
 use mathlib.Core.Bool.{true, false}
-use Prim.Native.Nat.{_+_, _-_, _≤_, _<_}
+use Prim.Native.Nat.{_-_, _<_}
 use native.Mathlib.Omega.{arith}
-use lib.ListN.{length}
 use mir.Facts.{toZ-ofZ}
 use mir.Syntax.{w64}
 use mir.Val.{toZ}
