@@ -22,7 +22,7 @@ use Rattle.search.specs.declared.SearchAnswer.the-variants.{Found, Refus
 use Rattle.search.specs.declared.SearchVerdict.{SearchVerdict}
 use Rattle.search.specs.declared.SearchVerdict.the-variants.{Taken, Refused}
 use Rattle.search.specs.Search.{inBand, isNearer, isStronger, nearest, reaches, strongest}
-use Rattle.search.specs.SearchTests.{absent, firstGiven, lengthRow, none, testedBand, testedChosen, wrongLength}
+use Rattle.search.specs.SearchTests.{absent, firstGiven, lengthRow, noKind, testedBand, testedChosen, wrongLength}
 use Rattle.search.proofs.Lowest.{best-below, best-unrefused, one-outcome}
 use Rattle.search.specs.SearchAnswers.{answerTo, nearestAnswer, nearestNumbers, searchNumbers, strongestAnswer, strongestNumbers}
 
@@ -52,9 +52,9 @@ few-powers n e = go (ltb 1024 n) refl
     go false h = ltb-false 1024 n h
 
 -- none has m cells, which is that N
-pub none-is : (n : ℕ) {m : ℕ} {k : KindFound} → k ≡ kindOf m → m ≡ 2 * (n - 1) → none k ≡ wrongLength n
+pub none-is : (n : ℕ) {m : ℕ} {k : KindFound} → k ≡ kindOf m → m ≡ 2 * (n - 1) → noKind k ≡ wrongLength n
 unfolding wrongLength
-none-is n e f = ap none (e ∙ ap kindOf f)
+none-is n e f = ap noKind (e ∙ ap kindOf f)
 
 -- 2^m + 1 lines are those of a block of 2^(m + 1) cells
 same-length : (m n : ℕ) → eqb (2 ^ suc m) (2 * (n - 1)) ≡ eqb n (2 ^ m + 1)
@@ -68,11 +68,11 @@ pub length-row : (n : ℕ) → wrongLength n ≡ lengthRow n .0
 unfolding wrongLength kindOf exponent absent
 length-row n = step 9 (step 8 (step 7 (step 6 (step 5 (step 4 (step 3 (step 2 (step 1 (step 0 refl)))))))))
   where
-    either : (t : Bool) (m x : ℕ) {rest : Bool} → none (found x) ≡ rest → none (found (cond t (suc m) x)) ≡ cond t false rest
+    either : (t : Bool) (m x : ℕ) {rest : Bool} → noKind (found x) ≡ rest → noKind (found (cond t (suc m) x)) ≡ cond t false rest
     either true m x e = refl
     either false m x e = e
 
-    step : (m : ℕ) {rest : Bool} → none (found (exponent m (2 * (n - 1)))) ≡ rest → none (found (exponent (suc m) (2 * (n - 1)))) ≡ cond (eqb n (2 ^ m + 1)) false rest
+    step : (m : ℕ) {rest : Bool} → noKind (found (exponent m (2 * (n - 1)))) ≡ rest → noKind (found (exponent (suc m) (2 * (n - 1)))) ≡ cond (eqb n (2 ^ m + 1)) false rest
     step m e = rw (same-length m n) (either (eqb n (2 ^ m + 1)) m (exponent m (2 * (n - 1))) e)
 
 -- ---- the checks in turn, each after those that are passed

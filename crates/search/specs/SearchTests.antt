@@ -17,14 +17,15 @@ unfoldable pub firstGiven : {A : Type 0} → List (Bool × A) → A → A
 firstGiven [] otherwise = otherwise
 firstGiven (check ∷ checks) otherwise = cond (check .0) (check .1) (firstGiven checks otherwise)
 
-abbrev pub none : KindFound → Bool
-none (Found kind) = false
-none None = true
+-- whether no block has the length
+abbrev pub noKind : KindFound → Bool
+noKind (Found kind) = false
+noKind None = true
 
 -- 1: n cells are not N/2 + 1 for a permitted N, which would be 2 (n - 1)
 unfoldable pub wrongLength : ℕ → Bool
 unfolding kindOf
-wrongLength n = none (kindOf (2 * (n - 1)))
+wrongLength n = noKind (kindOf (2 * (n - 1)))
 
 -- the strongest: then 4 if a given line exceeds N/2, the low end before the high one, or the low end exceeds the high one
 unfoldable pub testedBand : ℕ → Line → Line → SearchVerdict
