@@ -2,6 +2,7 @@
 use kind::Line;
 ghost use mathlib.Core.Path.{_≡_};
 ghost use mathlib.Core.List.{[]};
+ghost use Prim.Native.Nat.{_/_, _%_, _^_};
 ghost use lib.ListN.{length};
 ghost use Rattle.cell_bytes.specs.CellBytes.{cellsIn};
 ghost use Rattle.block.specs.Tests.{testedLine, testedSamples, testedSpectrum};
@@ -140,7 +141,7 @@ pub extern "C" fn hartley_place(answer: u64) -> u64
 pub extern "C" fn hartley_case(answer: u64) -> u64
     ensures { λ r. ⌜ r ≡ caseIn answer ⌝ }
 {
-    answer / 256 % 256
+    byte_1(answer)
 }
 
 // Whether a search has found a line, 1 or 0, in its answer.
@@ -148,7 +149,7 @@ pub extern "C" fn hartley_case(answer: u64) -> u64
 pub extern "C" fn hartley_found(answer: u64) -> u64
     ensures { λ r. ⌜ r ≡ foundIn answer ⌝ }
 {
-    answer / 256 % 256
+    byte_1(answer)
 }
 
 // The line that a search has found, in its answer.
@@ -156,7 +157,7 @@ pub extern "C" fn hartley_found(answer: u64) -> u64
 pub extern "C" fn hartley_line(answer: u64) -> u64
     ensures { λ r. ⌜ r ≡ lineIn answer ⌝ }
 {
-    answer / 65536 % 65536
+    bytes_2_and_3(answer)
 }
 
 // The rate in the answer to an accepted trace.
@@ -172,7 +173,7 @@ pub extern "C" fn hartley_rate(answer: u64) -> u64
 pub extern "C" fn hartley_p(answer: u64) -> u64
     ensures { λ r. ⌜ r ≡ pIn answer ⌝ }
 {
-    answer / 256 % 256
+    byte_1(answer)
 }
 
 // The number of blocks in the answer to an accepted trace.
@@ -180,7 +181,7 @@ pub extern "C" fn hartley_p(answer: u64) -> u64
 pub extern "C" fn hartley_blocks(answer: u64) -> u64
     ensures { λ r. ⌜ r ≡ blocksIn answer ⌝ }
 {
-    answer / 65536 % 65536
+    bytes_2_and_3(answer)
 }
 
 // The version of this interface, for a host whose header may be of another day than its archive.
@@ -189,4 +190,18 @@ pub extern "C" fn hartley_version() -> u64
     ensures { λ r. ⌜ r ≡ VERSION ⌝ }
 {
     2
+}
+
+// Byte 1 of an answer.
+fn byte_1(answer: u64) -> u64
+    ensures { λ r. ⌜ r ≡ answer / 256 % 256 ⌝ }
+{
+    answer / 256 % 256
+}
+
+// Bytes 2 and 3 of an answer.
+fn bytes_2_and_3(answer: u64) -> u64
+    ensures { λ r. ⌜ r ≡ answer / 256 ^ 2 % 256 ^ 2 ⌝ }
+{
+    answer / 65536 % 65536
 }
