@@ -30,7 +30,7 @@
 #include <stddef.h>
 #include <stdint.h>
 
-/* Counts one up with every change to a signature, an answer or a refusal. */
+/* Counts one up with every new call, and every change to a signature, an answer or a refusal. */
 #define HARTLEY_VERSION 2
 /* The bytes of a cell. */
 #define HARTLEY_CELL_BYTES 8

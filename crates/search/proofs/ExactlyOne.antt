@@ -97,6 +97,6 @@ module _ (ps : List ℤ) where
         go (inl n) = record { line = n .0; has = n .1; no-other = λ w t. nearest-unique (n .0) w (n .1) t; answered = nearest-is ps v level _ (n .1) }
         go (inr none) = one-outcome (reaches-so r) (none .unreached some k (omega arith))
 
-    -- none exactly when no line reaches it
+    -- none only where no line reaches it; that it is none there is `nearest-none`
     pub none-exactly : v < length ps → nearest ps v level ≡ None → (w : ℕ) → w < length ps → level ≤ℤ cell ps w → ⊥
     none-exactly h e w k r = let f = nearest-exactly h w k r .answered in let z : _≡_ {A = ℕ} 0 1 = cc in omega arith

@@ -1,4 +1,4 @@
--- The lowest line that is among some and is beaten by none of them: what a line must have to be it. Either search is this, with tests of its own.
+-- The lowest of the lines that pass the test `among` and that none of these beats: what a line must have to be it. Either search is this, with tests of its own.
 -- Example: `best-is among beats n v in-list is-among unbeaten lower : best among beats n ≡ Found (record { 0 = v })`.
 use mathlib.Core.Path.{_≡_, refl, sym, _∙_, ap, subst}
 use mathlib.Core.Bool.{Bool, true, false, cond, not, _&&_}
@@ -70,7 +70,7 @@ module _ (test : ℕ → Bool) where
       go true e f = let z : _≡_ {A = ℕ} 0 1 = cc in omega arith
       go false e f = f e
 
--- ---- the best of those that are among some
+-- ---- the best of those that pass the test `among`
 
 module _ (among : ℕ → Bool) (beats : ℕ → ℕ → Bool) (n : ℕ) where
   -- w is among them and beats v

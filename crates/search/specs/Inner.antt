@@ -1,4 +1,4 @@
--- What the inner functions ask of their callers and leave. None of it stands in a public promise.
+-- What the inner functions ask of their callers and leave. None of it stands in a promise of `strongest` or `nearest`.
 use mathlib.Core.Path.{_≡_}
 use mathlib.Core.Bool.{Bool, false, cond}
 use mathlib.Core.List.{List}

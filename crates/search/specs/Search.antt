@@ -14,7 +14,7 @@ use Rattle.search.specs.declared.SearchAnswer.the-variants.{Found, None}
 
 -- ---- comparisons
 
--- whether a power reaches a level, that is, is at least as large; the only comparison of powers
+-- whether a power reaches a level, that is, is at least as large; the only comparison of powers that computes
 unfoldable pub reaches : ℤ → ℤ → Bool
 reaches power level = leZ level power
 
@@ -22,10 +22,11 @@ reaches power level = leZ level power
 abbrev pub isStronger : List ℤ → ℕ → ℕ → Bool
 isStronger ps w v = not (reaches (cell ps v) (cell ps w))
 
--- how far two lines are apart, and whether line w is nearer to the chosen one than line v
+-- how far two lines are apart; a difference below 0 is 0, so one of the two is
 abbrev pub distance : ℕ → ℕ → ℕ
 distance v w = (v - w) + (w - v)
 
+-- whether line w is nearer to the chosen one than line v
 abbrev pub isNearer : ℕ → ℕ → ℕ → Bool
 isNearer chosen w v = ltb (distance chosen w) (distance chosen v)
 
@@ -43,7 +44,7 @@ unfoldable pub lowest : (ℕ → Bool) → ℕ → ℕ → SearchAnswer
 lowest test v zero = None
 lowest test v (suc n) = cond (test v) (Found (record { 0 = v })) (lowest test (suc v) n)
 
--- of those of n lines that are among some, the lowest that none of them beats; none where there are no such lines
+-- of those of n lines that pass the test `among`, the lowest that none of these beats; none where no line passes it
 abbrev pub best : (ℕ → Bool) → (ℕ → ℕ → Bool) → ℕ → SearchAnswer
 best among beats n = lowest (λ v. among v && not (some (λ w. among w && beats w v) 0 n)) 0 n
 

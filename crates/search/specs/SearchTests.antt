@@ -1,5 +1,5 @@
 -- Document 02, Item 2: the checks of a search, in turn, of which the first that finds a fault decides; and the same in numbers alone. A list of n powers
--- has lines 0 to n - 1, so N/2 is n - 1.
+-- has lines 0 to n - 1, so N/2 is n - 1; of no power it is 0, since a difference below 0 is 0, and no block has 0 cells.
 use mathlib.Core.Bool.{Bool, true, false, cond}
 use mathlib.Core.List.{List, [], _∷_}
 use Prim.Native.Nat.{ℕ, _*_, _-_}

@@ -204,7 +204,7 @@ fn look_outwards(powers: &[i64], chosen: Line, level: i64) -> SearchAnswer
     }
 }
 
-// The same where only lines above v are left to look at, so far above it or farther.
+// The same where only lines above v are left, from the distance `start` on; no nearer line reaches the level.
 fn look_above(powers: &[i64], v: usize, start: usize, level: i64) -> SearchAnswer
     requires { ⌜ (v < length (now powers)) × (v < start) × NoneWithin (now powers) v level start ⌝ }
     ensures { λ r. ⌜ r ≡ nearest (now (powers .entry)) v level ⌝ }
@@ -220,7 +220,7 @@ fn look_above(powers: &[i64], v: usize, start: usize, level: i64) -> SearchAnswe
     SearchAnswer::None
 }
 
-// The same where only lines below v are left.
+// The same where only lines below v are left, from the distance `start` on.
 fn look_below(powers: &[i64], v: usize, start: usize, level: i64) -> SearchAnswer
     requires { ⌜ (v < length (now powers)) × (length (now powers) ≤ v + start) × NoneWithin (now powers) v level start ⌝ }
     ensures { λ r. ⌜ r ≡ nearest (now (powers .entry)) v level ⌝ }

@@ -66,8 +66,8 @@ fn look_through(powers: &[u8], low: Line, high: Line) -> Line
     Line(peak.line)
 }
 
-// The nearest line to a line of the list of so many: that line itself, then one below and one above at each distance, as far as there are both, then what is
-// left.
+// The nearest line to a line of the list, which has so many lines: that line itself, then one below and one above at each distance, as far as there are both,
+// then what is left.
 fn look_outwards(powers: &[u8], lines: usize, chosen: Line, level: i64) -> SearchAnswer
     requires { ⌜ (lines ≡ length (cellsIn (now powers))) × (chosen .0 < lines) ⌝ }
     ensures { λ r. ⌜ r ≡ nearest (cellsIn (now (powers .entry))) (chosen .0) level ⌝ }
@@ -96,7 +96,7 @@ fn look_outwards(powers: &[u8], lines: usize, chosen: Line, level: i64) -> Searc
     }
 }
 
-// The same where only lines above v are left to look at, so far above it or farther.
+// The same where only lines above v are left, from the distance `start` on; no nearer line reaches the level.
 fn look_above(powers: &[u8], lines: usize, v: usize, start: usize, level: i64) -> SearchAnswer
     requires { ⌜ (lines ≡ length (cellsIn (now powers))) × (v < lines) × (v < start) × NoneWithin (cellsIn (now powers)) v level start ⌝ }
     ensures { λ r. ⌜ r ≡ nearest (cellsIn (now (powers .entry))) v level ⌝ }
@@ -112,7 +112,7 @@ fn look_above(powers: &[u8], lines: usize, v: usize, start: usize, level: i64) -
     SearchAnswer::None
 }
 
-// The same where only lines below v are left.
+// The same where only lines below v are left, from the distance `start` on.
 fn look_below(powers: &[u8], v: usize, start: usize, level: i64) -> SearchAnswer
     requires { ⌜ (v < length (cellsIn (now powers))) × (length (cellsIn (now powers)) ≤ v + start) × NoneWithin (cellsIn (now powers)) v level start ⌝ }
     ensures { λ r. ⌜ r ≡ nearest (cellsIn (now (powers .entry))) v level ⌝ }
