@@ -255,12 +255,12 @@ static const struct choice {
     {"nearest to line 2^64 - 1, level 514", 513 * CELL, SIZE_MAX, 514, 0, 1, HARTLEY_LINE, PLACE_MAX},
 };
 
-/* A whole trace, and after it one byte for the trace that has a byte after its end. */
-static const uint8_t whole[TRACE + 1] = {
+/* A whole trace, and after it a second end for the traces that have bytes after their end. */
+static const uint8_t whole[TRACE + 6] = {
     6, 0, 0, 0, 1, 0, 0x40, 0x1f, 0, 0, 2, 0,   /* head: 8,000 samples a second, P = 2 */
     8, 0, 0, 0, 2, 0, 1, 0, 2, 0, 3, 0, 4, 0,   /* block: 1, 2, 3, 4 */
     0, 0, 0, 0, 4, 0,                           /* end */
-    0
+    0, 0, 0, 0, 4, 0
 };
 
 /* What becomes of it when it is cut or made longer and one byte is set. */
@@ -269,11 +269,21 @@ static const struct fault { const char *what; size_t bytes, at; uint8_t byte; ui
     {"check, cut within the block", 20, 0, 6, HARTLEY_CUT, 12},
     {"check, cut within the end", TRACE - 1, 0, 6, HARTLEY_CUT, 26},
     {"check, a record of kind 5", TRACE, 16, 5, HARTLEY_KIND, 12},
-    {"check, a block first", TRACE, 4, 2, HARTLEY_ORDER, 0},
-    {"check, a second head", TRACE, 16, 1, HARTLEY_ORDER, 12},
-    {"check, a byte after the end", TRACE + 1, 0, 6, HARTLEY_ORDER, TRACE},
     {"check, a block of 7 bytes", TRACE, 12, 7, HARTLEY_SIZE, 12},
     {"check, P is 11", TRACE, 10, 11, HARTLEY_HEAD, 0},
+    {"check, a block first", TRACE, 4, 2, HARTLEY_HEADLESS, 0},
+    {"check, a note first", TRACE, 4, 3, HARTLEY_HEADLESS, 0},
+    {"check, an end first", TRACE, 4, 4, HARTLEY_HEADLESS, 0},
+    {"check, a second head", TRACE, 16, 1, HARTLEY_SECOND_HEAD, 12},
+    {"check, a second head after the block", TRACE, 30, 1, HARTLEY_SECOND_HEAD, 26},
+    {"check, a byte after the end", TRACE + 1, 0, 6, HARTLEY_TAIL, TRACE},
+    {"check, a second end", TRACE + 6, 0, 6, HARTLEY_TAIL, TRACE},
+};
+
+/* The numbers that such traces are given, whichever byte is set. 13, which version 2 had, is none of them. */
+static const uint64_t numbers[] = {
+    HARTLEY_OK, HARTLEY_CUT, HARTLEY_KIND, HARTLEY_SIZE, HARTLEY_HEAD,
+    HARTLEY_HEADLESS, HARTLEY_SECOND_HEAD, HARTLEY_TAIL
 };
 
 /* A trace of three blocks, with a note between. */
@@ -543,12 +553,40 @@ static void show_whole(void)
     expect_trace(answer, 8000, 2, 1);
 }
 
+/* The check of the whole trace cut or made longer, with one byte set. */
+static uint64_t check_of_fault(size_t bytes, size_t at, uint8_t byte)
+{
+    uint8_t trace[sizeof whole];
+    memcpy(trace, whole, sizeof trace);
+    trace[at] = byte;
+    return check_of(trace, bytes);
+}
+
 static void show_fault(const struct fault *row)
 {
-    uint8_t trace[TRACE + 1];
-    memcpy(trace, whole, sizeof trace);
-    trace[row->at] = row->byte;
-    expect(row->what, check_of(trace, row->bytes), row->number, row->place);
+    expect(row->what, check_of_fault(row->bytes, row->at, row->byte), row->number, row->place);
+}
+
+/* The same for every count of bytes and every byte, set to 0 to 5. Shows how often each number is given: each is, and
+   no other. */
+static void show_numbers(void)
+{
+    size_t given[256] = {0}, tried = 0, expected = 0;
+    for (size_t bytes = 0; bytes <= sizeof whole; bytes++)
+        for (size_t at = 0; at < sizeof whole; at++)
+            for (uint8_t byte = 0; byte <= 5; byte++) {
+                given[hartley_number(check_of_fault(bytes, at, byte))]++;
+                tried++;
+            }
+    printf("check, every byte set, cut or made longer: %zu traces\n", tried);
+    for (size_t i = 0; i < COUNT(numbers); i++) {
+        printf("  number %" PRIu64 ": %zu\n", numbers[i], given[numbers[i]]);
+        if (given[numbers[i]] == 0)
+            fail("this number was expected too");
+        expected += given[numbers[i]];
+    }
+    if (expected != tried)
+        fail("another number was given");
 }
 
 /* The check of a trace that is a head, a note of so many bytes and an end. */
@@ -612,6 +650,7 @@ int main(void)
     show_whole();
     for (size_t i = 0; i < COUNT(faults); i++)
         show_fault(&faults[i]);
+    show_numbers();
     expect("check, a note of 255 bytes", check_of_note(255), 0, 0);
     expect("check, a note of 256 bytes", check_of_note(256), HARTLEY_SIZE, 12);
     expect("check, 65537 bytes", check_of(zeros, HARTLEY_LONGEST_TRACE + 1), HARTLEY_LONG, 0);

@@ -22,7 +22,10 @@
  *
  * Version: header and archive may be of different days, so a host compares hartley_version() with HARTLEY_VERSION at
  * its start. docs/CHANGES.md says what has changed. Version 2 has two calls more, hartley_strongest and
- * hartley_nearest, and two that read their answers, hartley_found and hartley_line; all of version 1 is as it was.
+ * hartley_nearest, and two that read their answers, hartley_found and hartley_line; all of version 1 is as it was. In
+ * version 3 the refusals 17, 18 and 19 stand where 13, HARTLEY_ORDER, stood. 13 is no longer given, and its name is
+ * gone. A host that asked for 13 asks for the three: where it used the name the compiler says so, where it wrote the
+ * number nothing does. Which traces are accepted, all places and every other answer are as they were in version 2.
  */
 #ifndef HARTLEY_H
 #define HARTLEY_H
@@ -31,7 +34,7 @@
 #include <stdint.h>
 
 /* Counts one up with every new call, and every change to a signature, an answer or a refusal. */
-#define HARTLEY_VERSION 2
+#define HARTLEY_VERSION 3
 /* The bytes of a cell. */
 #define HARTLEY_CELL_BYTES 8
 /* The largest block, in cells. Parts and powers have HARTLEY_LARGEST_BLOCK / 2 + 1 at most. */
@@ -48,8 +51,9 @@ extern "C" {
 
 /*
  * Refused input. Block calls, and the searches strongest and nearest, test 1, 2, 3 and 4 in turn. A trace is tested for
- * 10; then each record for 11 (six bytes), 12, 13, 14, 11 (payload), 15; the first fault found decides. A byte after
- * the end is looked for last, once the end's own length has passed 14. A fetch then tests 16, then 2.
+ * 10; then each record for 11 (six bytes), 12, 17, 18, 14, 11 (payload), 15; the first fault found decides. A byte
+ * after the end, 19, is looked for last, once the end's own length has passed 14. A fetch then tests 16, then 2.
+ * docs/TRACES.md, for makers of recorders, explains each refusal of a trace by an example.
  */
 enum hartley_refusal {
     HARTLEY_OK = 0,      /* nothing is refused */
@@ -65,10 +69,12 @@ enum hartley_refusal {
     HARTLEY_CUT = 11,    /* fewer than 6 bytes left before the end is read, or payload incomplete;
                             place the record's first byte */
     HARTLEY_KIND = 12,   /* kind not 1 to 4; same place */
-    HARTLEY_ORDER = 13,  /* not the head first, a second head, or a byte after the end; same place, or that byte */
     HARTLEY_SIZE = 14,   /* length wrong for the kind; same place */
     HARTLEY_HEAD = 15,   /* rate 0 or P outside 1 to 10; same place */
-    HARTLEY_ABSENT = 16  /* fetch of block k, k not below the count; place k */
+    HARTLEY_ABSENT = 16, /* fetch of block k, k not below the count; place k */
+    HARTLEY_HEADLESS = 17,    /* first record is not a head; place 0, its first byte */
+    HARTLEY_SECOND_HEAD = 18, /* second head; place its first byte */
+    HARTLEY_TAIL = 19         /* a byte after the end; place that byte */
 };
 
 /* The cases of a scaled line, by the line asked for. */
@@ -114,11 +120,11 @@ uint64_t hartley_strongest(const uint8_t *powers, size_t powers_bytes, size_t lo
    the level, and only there; or a refusal: 1 or 4. */
 uint64_t hartley_nearest(const uint8_t *powers, size_t powers_bytes, size_t chosen, int64_t level);
 
-/* The check of a trace. Answers rate, P and the number of blocks, or a refusal: 10 to 15. */
+/* The check of a trace. Answers rate, P and the number of blocks, or a refusal: 10, 11, 12, 14, 15, 17, 18 or 19. */
 uint64_t hartley_check(const uint8_t *trace, size_t trace_bytes);
 
 /* The N samples of block k of a trace, counted from 0, in N lent cells. Answers what hartley_check answers, or a
-   refusal: 10 to 15, 16 or 2. */
+   refusal: 2, 10, 11, 12, 14, 15, 16, 17, 18 or 19. */
 uint64_t hartley_fetch(const uint8_t *trace, size_t trace_bytes, size_t k, uint8_t *cells, size_t cells_bytes);
 
 /*

@@ -14,8 +14,8 @@ use lib.Pow.{pow-mono}
 use Rattle.block.specs.declared.BlockVerdict.{BlockVerdict}
 use Rattle.block.specs.declared.BlockVerdict.the-variants.{Taken, Refused}
 use Rattle.refusal.specs.declared.Refusal.{Refusal}
-use Rattle.refusal.specs.declared.Refusal.the-variants.{Length, Misfit, Loud, Line, Long, Cut, Kind, Order, Size, Head, Absent}
-use Rattle.refusal.specs.RefusalTable.{place}
+use Rattle.refusal.specs.declared.Refusal.the-variants.{Length, Misfit, Loud}
+use Rattle.refusal.specs.RefusalTable.{number, place}
 use Rattle.kind.specs.BlockKinds.{LARGEST, kindOf}
 use Rattle.kind.specs.declared.KindFound.{KindFound}
 use Rattle.kind.specs.declared.KindFound.the-variants.{Found, None}
@@ -50,30 +50,7 @@ module _ (low high : ℤ) where
 
 -- 1, 2 or 3, at a cell of a block
 abbrev pub InBlock : Refusal → Type 0
-InBlock Length = Unit {0}
-InBlock Misfit = Unit {0}
-InBlock (Loud cell) = cell ≤ LARGEST
-InBlock (Line line) = ⊥
-InBlock Long = ⊥
-InBlock (Cut byte) = ⊥
-InBlock (Kind byte) = ⊥
-InBlock (Order byte) = ⊥
-InBlock (Size byte) = ⊥
-InBlock (Head byte) = ⊥
-InBlock (Absent block) = ⊥
-
-place-in-block : (refusal : Refusal) → InBlock refusal → place refusal ≤ LARGEST
-place-in-block Length h = omega arith
-place-in-block Misfit h = omega arith
-place-in-block (Loud cell) h = h
-place-in-block (Line line) h = absurd h
-place-in-block Long h = absurd h
-place-in-block (Cut byte) h = absurd h
-place-in-block (Kind byte) h = absurd h
-place-in-block (Order byte) h = absurd h
-place-in-block (Size byte) h = absurd h
-place-in-block (Head byte) h = absurd h
-place-in-block (Absent block) h = absurd h
+InBlock refusal = (number refusal ≤ 3) × (place refusal ≤ LARGEST)
 
 abbrev Placed : BlockVerdict → Type 0
 Placed (Taken kind) = Unit {0}
@@ -94,12 +71,12 @@ module _ (low high : ℤ) (outputs : List ℕ) (xs : List ℤ) where
 
       go : (k : KindFound) → kindOf (length xs) ≡ k → Placed (refusedIf (ltb loud (length xs)) (Loud loud) (refusedIf (misfit (length xs / 2 + 1) outputs) Misfit (ofLength k)))
       go (Found kind) e = let unfit = misfit (length xs / 2 + 1) outputs in
-          placed-if (ltb loud (length xs)) (Loud loud) (refusedIf unfit Misfit (Taken kind)) (placed-if unfit Misfit (Taken kind) tt (λ t. tt))
-          (λ t. omega (arith, ltb-true loud (length xs) t, kind-largest (kind-length (length xs) (kind .p) e)))
-      go None e = tt
+          placed-if (ltb loud (length xs)) (Loud loud) (refusedIf unfit Misfit (Taken kind)) (placed-if unfit Misfit (Taken kind) tt (λ t. (omega arith, omega arith)))
+          (λ t. (omega arith, omega (arith, ltb-true loud (length xs) t, kind-largest (kind-length (length xs) (kind .p) e))))
+      go None e = (omega arith, omega arith)
 
   pub refused-in-block : (refusal : Refusal) → tested low high outputs xs ≡ Refused refusal → InBlock refusal
   refused-in-block refusal e = subst Placed e placed
 
   pub refused-place : (refusal : Refusal) → tested low high outputs xs ≡ Refused refusal → place refusal ≤ LARGEST
-  refused-place refusal e = place-in-block refusal (refused-in-block refusal e)
+  refused-place refusal e = refused-in-block refusal e .1

@@ -189,7 +189,7 @@ pub extern "C" fn hartley_blocks(answer: u64) -> u64
 pub extern "C" fn hartley_version() -> u64
     ensures { λ r. ⌜ r ≡ VERSION ⌝ }
 {
-    2
+    3
 }
 
 // Byte 1 of an answer.

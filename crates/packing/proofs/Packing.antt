@@ -1,11 +1,11 @@
 -- Unpacking an answer gives back what was packed, since each part stays within its bytes.
 -- Example: `block-unpacked k : unpackedBlock (packed (blockAnswer k)) ≡ verdictNumbers k`.
 use mathlib.Core.Path.{_≡_, refl, sym, _∙_, ap}
-use mathlib.Core.Bool.{Bool, true, false, cond}
+use mathlib.Core.Bool.{Bool, true, false, cond, _||_}
 use mathlib.Core.List.{List, [], _∷_}
 use Prim.Native.Nat.{ℕ, _+_, _*_, _/_, _%_, _^_, _≤_, _<_}
 use native.Mathlib.Omega.{arith}
-use borrow.Author.Tests.{eq-eqb, ne-eqb}
+use borrow.Author.Tests.{eq-eqb, ne-eqb, eqb-true, eqb-false}
 use lib.Dec.{eqb}
 use lib.IntN.{ℤ}
 use lib.ListN.{length}
@@ -15,8 +15,9 @@ use Rattle.little_endian.specs.Spelling.{spelled}
 use Rattle.block.specs.declared.BlockVerdict.{BlockVerdict}
 use Rattle.block.specs.declared.BlockVerdict.the-variants.{Taken, Refused as BlockRefused}
 use Rattle.refusal.specs.declared.Refusal.{Refusal}
-use Rattle.refusal.specs.declared.Refusal.the-variants.{Length, Misfit, Loud, Line, Long, Cut, Kind, Order, Size, Head, Absent}
+use Rattle.refusal.specs.declared.Refusal.the-variants.{Line, Absent}
 use Rattle.refusal.specs.RefusalTable.{number, place}
+use Rattle.refusal.proofs.Numbers.{number-fits}
 use Rattle.block.specs.BlockAnswers.{blockAnswer, verdictNumbers}
 use Rattle.block.specs.declared.Answer.{Answer}
 use Rattle.block.specs.declared.Answer.the-variants.{Done, Refused}
@@ -37,19 +38,6 @@ use Rattle.packing.specs.Packing.{blocksIn, caseNumbers, caseOf, foundIn
 
 -- ---- a refusal
 
-pub number-fits : (refusal : Refusal) → (1 ≤ number refusal) × (number refusal < 256)
-number-fits Length = (omega arith, omega arith)
-number-fits Misfit = (omega arith, omega arith)
-number-fits (Loud cell) = (omega arith, omega arith)
-number-fits (Line line) = (omega arith, omega arith)
-number-fits Long = (omega arith, omega arith)
-number-fits (Cut byte) = (omega arith, omega arith)
-number-fits (Kind byte) = (omega arith, omega arith)
-number-fits (Order byte) = (omega arith, omega arith)
-number-fits (Size byte) = (omega arith, omega arith)
-number-fits (Head byte) = (omega arith, omega arith)
-number-fits (Absent block) = (omega arith, omega arith)
-
 module _ (refusal : Refusal) where
   number-back : numberIn (packedRefusal refusal) ≡ number refusal
   unfolding packedRefusal
@@ -67,60 +55,37 @@ module _ (refusal : Refusal) where
   told shown done e = rw (refused-at-all, number-back, e) refl
 
 -- the place is what the host has asked for where the refusal is 4 or 16, and else fits its bytes
-abbrev pub Tellable : ℕ → Refusal → Type 0
-Tellable asked Length = Unit {0}
-Tellable asked Misfit = Unit {0}
-Tellable asked (Loud cell) = cell < 256 ^ 7
-Tellable asked (Line line) = line .0 ≡ asked
-Tellable asked Long = Unit {0}
-Tellable asked (Cut byte) = byte < 256 ^ 7
-Tellable asked (Kind byte) = byte < 256 ^ 7
-Tellable asked (Order byte) = byte < 256 ^ 7
-Tellable asked (Size byte) = byte < 256 ^ 7
-Tellable asked (Head byte) = byte < 256 ^ 7
-Tellable asked (Absent block) = block ≡ asked
+pub record Tellable (asked : ℕ) (refusal : Refusal) : Type 0 where
+  pub line-asked : number refusal ≡ 4 → place refusal ≡ asked
+  pub block-asked : number refusal ≡ 16 → place refusal ≡ asked
+  pub fits : (number refusal ≡ 4 → ⊥) → (number refusal ≡ 16 → ⊥) → place refusal < 256 ^ 7
 
-module _ (asked : ℕ) where
-  place-for : (refusal : Refusal) → Tellable asked refusal → placeFor asked (packedRefusal refusal) ≡ place refusal
-  place-for Length h = rw (number-back Length) (place-back Length (omega arith))
-  place-for Misfit h = rw (number-back Misfit) (place-back Misfit (omega arith))
-  place-for (Loud cell) h = rw (number-back (Loud cell)) (place-back (Loud cell) h)
-  place-for (Line line) h = rw (number-back (Line line)) (sym h)
-  place-for Long h = rw (number-back Long) (place-back Long (omega arith))
-  place-for (Cut byte) h = rw (number-back (Cut byte)) (place-back (Cut byte) h)
-  place-for (Kind byte) h = rw (number-back (Kind byte)) (place-back (Kind byte) h)
-  place-for (Order byte) h = rw (number-back (Order byte)) (place-back (Order byte) h)
-  place-for (Size byte) h = rw (number-back (Size byte)) (place-back (Size byte) h)
-  place-for (Head byte) h = rw (number-back (Head byte)) (place-back (Head byte) h)
-  place-for (Absent block) h = rw (number-back (Absent block)) (sym h)
+module _ (asked : ℕ) (refusal : Refusal) where
+  place-for : Tellable asked refusal → placeFor asked (packedRefusal refusal) ≡ place refusal
+  place-for h = rw (number-back refusal) (go (eqb (number refusal) 4) (eqb (number refusal) 16) refl refl)
+    where
+      go : (t u : Bool) → eqb (number refusal) 4 ≡ t → eqb (number refusal) 16 ≡ u → cond (t || u) asked (placeIn (packedRefusal refusal)) ≡ place refusal
+      go true u e f = sym (h .line-asked (eqb-true (number refusal) 4 e))
+      go false true e f = sym (h .block-asked (eqb-true (number refusal) 16 f))
+      go false false e f = place-back refusal (h .fits (eqb-false (number refusal) 4 e) (eqb-false (number refusal) 16 f))
+
+  small-tellable : (number refusal ≡ 4 → ⊥) → (number refusal ≡ 16 → ⊥) → place refusal < 256 ^ 7 → Tellable asked refusal
+  small-tellable four sixteen small = record { line-asked = λ e. absurd (four e); block-asked = λ e. absurd (sixteen e); fits = λ f s. small }
 
   -- a refusal of a trace has its place in it
-  pub in-trace-tellable : (refusal : Refusal) → InTrace LONGEST refusal → Tellable asked refusal
-  in-trace-tellable Length h = tt
-  in-trace-tellable Misfit h = tt
-  in-trace-tellable (Loud cell) h = absurd h
-  in-trace-tellable (Line line) h = absurd h
-  in-trace-tellable Long h = tt
-  in-trace-tellable (Cut byte) h = omega arith
-  in-trace-tellable (Kind byte) h = omega arith
-  in-trace-tellable (Order byte) h = omega arith
-  in-trace-tellable (Size byte) h = omega arith
-  in-trace-tellable (Head byte) h = omega arith
-  in-trace-tellable (Absent block) h = absurd h
+  pub in-trace-tellable : InTrace LONGEST refusal → Tellable asked refusal
+  in-trace-tellable h = small-tellable (λ e. omega arith) (h .1) (omega arith)
 
   -- and a refusal of a block
-  pub in-block-tellable : (refusal : Refusal) → InBlock refusal → Tellable asked refusal
-  in-block-tellable Length h = tt
-  in-block-tellable Misfit h = tt
-  in-block-tellable (Loud cell) h = omega arith
-  in-block-tellable (Line line) h = absurd h
-  in-block-tellable Long h = tt
-  in-block-tellable (Cut byte) h = absurd h
-  in-block-tellable (Kind byte) h = absurd h
-  in-block-tellable (Order byte) h = absurd h
-  in-block-tellable (Size byte) h = absurd h
-  in-block-tellable (Head byte) h = absurd h
-  in-block-tellable (Absent block) h = absurd h
+  pub in-block-tellable : InBlock refusal → Tellable asked refusal
+  in-block-tellable h = small-tellable (λ e. omega arith) (λ e. omega arith) (omega arith)
+
+-- a line or a block that is asked for
+pub line-tellable : {asked : ℕ} (line : LineOf) → line .0 ≡ asked → Tellable asked (Line line)
+line-tellable line e = record { line-asked = λ f. e; block-asked = λ f. e; fits = λ four sixteen. absurd (four refl) }
+
+pub absent-tellable : (block : ℕ) → Tellable block (Absent block)
+absent-tellable block = record { line-asked = λ f. refl; block-asked = λ f. refl; fits = λ four sixteen. absurd (sixteen refl) }
 
 -- ---- a call on a block
 

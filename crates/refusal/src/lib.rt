@@ -3,8 +3,8 @@ use kind::Line;
 ghost use mathlib.Core.Path.{_≡_};
 ghost use Rattle.refusal.specs.RefusalTable.{number, place};
 
-// Why an input is refused: the rows of document 01, Refused input, in its order and by its words. A refusal holds its place
-// where that can be other than 0: a cell, a line, a byte of the trace, or the number of a block.
+// Why an input is refused: the rows of document 01, Refused input, in its order and by its words, and those of document 02, Item 3, which stand in
+// place of its 13. A refusal holds its place, a cell, a line, a byte of the trace or the number of a block, unless the papers' place is 0.
 pub enum Refusal {
     Length,
     Misfit,
@@ -13,14 +13,16 @@ pub enum Refusal {
     Long,
     Cut(usize),
     Kind(usize),
-    Order(usize),
     Size(usize),
     Head(usize),
     Absent(usize),
+    Headless(usize),
+    SecondHead(usize),
+    Tail(usize),
 }
 
 impl Refusal {
-    // The refusal's number in document 01.
+    // The refusal's number in the papers.
     pub fn number(self) -> usize
         ensures { λ n. ⌜ n ≡ number self ⌝ }
     {
@@ -32,10 +34,12 @@ impl Refusal {
             Refusal::Long => 10,
             Refusal::Cut(_) => 11,
             Refusal::Kind(_) => 12,
-            Refusal::Order(_) => 13,
             Refusal::Size(_) => 14,
             Refusal::Head(_) => 15,
             Refusal::Absent(_) => 16,
+            Refusal::Headless(_) => 17,
+            Refusal::SecondHead(_) => 18,
+            Refusal::Tail(_) => 19,
         }
     }
 
@@ -51,10 +55,12 @@ impl Refusal {
             Refusal::Long => 0,
             Refusal::Cut(byte) => byte,
             Refusal::Kind(byte) => byte,
-            Refusal::Order(byte) => byte,
             Refusal::Size(byte) => byte,
             Refusal::Head(byte) => byte,
             Refusal::Absent(block) => block,
+            Refusal::Headless(byte) => byte,
+            Refusal::SecondHead(byte) => byte,
+            Refusal::Tail(byte) => byte,
         }
     }
 }

@@ -19,7 +19,7 @@ use Rattle.block.proofs.Refused.{InBlock, refused-in-block}
 use Rattle.fourier.specs.declared.ScaledLine.{ScaledLine}
 use Rattle.fourier.specs.Scaled.{Values, scaledTo}
 use Rattle.packing.specs.Packing.{caseNumbers, packedScaled, unpackedScaled}
-use Rattle.packing.proofs.Packing.{Tellable, in-block-tellable, scaled-unpacked}
+use Rattle.packing.proofs.Packing.{Tellable, in-block-tellable, line-tellable, scaled-unpacked}
 use Rattle.lent_cells.proofs.Counts.{read-tested, read-taken}
 use Rattle.lent_cells.proofs.Calls.{LARGEST-LINE, LEAST-LINE}
 use Rattle.scaled_bytes.specs.LineHeld.{scaledOf}
@@ -47,7 +47,7 @@ module _ (line : Line) (xs : List ℤ) where
   -- a line is refused as the spectrum is, or by 4 with the line
   tellable : (k : BlockVerdict) → ((refusal : Refusal) → k ≡ Refused refusal → InBlock refusal) → (above : Bool) (refusal : Refusal) → refusedIf above (LineAbove line) k ≡ Refused refusal → Tellable (line .0) refusal
   tellable (Refused first) h above refusal e = in-block-tellable (line .0) refusal (h refusal e)
-  tellable (Taken kind) h true refusal e = let q : LineAbove line ≡ refusal = cc in subst (Tellable (line .0)) q refl
+  tellable (Taken kind) h true refusal e = let q : LineAbove line ≡ refusal = cc in subst (Tellable (line .0)) q (line-tellable line refl)
   tellable (Taken kind) h false refusal e = let z : _≡_ {A = ℕ} 0 1 = cc in absurd (omega arith)
 
   pub scaled-told : {answer : ℕ} → answer ≡ packedScaled (scaledTo xs line (testedLine line xs)) → unpackedScaled (line .0) answer ≡ caseNumbers (length xs) (line .0) (testedLine line xs)

@@ -22,7 +22,7 @@ use Rattle.search.specs.SearchTests.{testedBand, testedChosen, wrongLength}
 use Rattle.search.specs.SearchAnswers.{answerTo, nearestAnswer, nearestNumbers, searchNumbers, strongestAnswer, strongestNumbers}
 use Rattle.search.proofs.Checks.{band-known, band-length, band-taken, chosen-beyond, chosen-known, chosen-length, chosen-taken, high-beyond, low-beyond, nearest-listed, nearest-numbers, nearest-unrefused, strongest-listed, strongest-numbers, strongest-unrefused, turned-round}
 use Rattle.packing.specs.Packing.{packedSearch, unpackedSearch}
-use Rattle.packing.proofs.Packing.{Tellable, search-unpacked}
+use Rattle.packing.proofs.Packing.{Tellable, in-block-tellable, line-tellable, search-unpacked}
 use Rattle.search_bytes.specs.Asked.{endAsked}
 
 -- ---- an answer by what the checks have found: its line is one of the list, and its refusal is that of the checks
@@ -52,11 +52,11 @@ module _ (n : ℕ) (low high : Line) where
   band-tellable refusal e = go (wrongLength n) (ltb (n - 1) (low .0)) (ltb (n - 1) (high .0)) (ltb (high .0) (low .0)) refl refl refl refl
     where
       go : (t u v w : Bool) → wrongLength n ≡ t → ltb (n - 1) (low .0) ≡ u → ltb (n - 1) (high .0) ≡ v → ltb (high .0) (low .0) ≡ w → Tellable end refusal
-      go true u v w a b c d = so end refusal e Length (band-length n low high a) tt
-      go false true v w a b c d = so end refusal e (LineAbove low) (low-beyond n low high a (ltb-true _ _ b)) (rw b refl)
+      go true u v w a b c d = so end refusal e Length (band-length n low high a) (in-block-tellable end Length (omega arith, omega arith))
+      go false true v w a b c d = so end refusal e (LineAbove low) (low-beyond n low high a (ltb-true _ _ b)) (line-tellable low (rw b refl))
       go false false true w a b c d = let above = ltb-true (n - 1) (high .0) c in let below = ltb-false (n - 1) (low .0) b in
-          so end refusal e (LineAbove high) (high-beyond n low high a below above) (rw (b, le-ltb (high .0) (low .0) (omega arith)) refl)
-      go false false false true a b c d = so end refusal e (LineAbove low) (turned-round n low high a (ltb-false _ _ b) (ltb-false _ _ c) (ltb-true _ _ d)) (rw (b, d) refl)
+          so end refusal e (LineAbove high) (high-beyond n low high a below above) (line-tellable high (rw (b, le-ltb (high .0) (low .0) (omega arith)) refl))
+      go false false false true a b c d = so end refusal e (LineAbove low) (turned-round n low high a (ltb-false _ _ b) (ltb-false _ _ c) (ltb-true _ _ d)) (line-tellable low (rw (b, d) refl))
       go false false false false a b c d = never end refusal e (band-taken n low high a (ltb-false _ _ b) (ltb-false _ _ c) (ltb-false _ _ d))
 
 module _ (n : ℕ) (chosen : Line) where
@@ -64,8 +64,8 @@ module _ (n : ℕ) (chosen : Line) where
   chosen-tellable refusal e = go (wrongLength n) (ltb (n - 1) (chosen .0)) refl refl
     where
       go : (t u : Bool) → wrongLength n ≡ t → ltb (n - 1) (chosen .0) ≡ u → Tellable (chosen .0) refusal
-      go true u a b = so (chosen .0) refusal e Length (chosen-length n chosen a) tt
-      go false true a b = so (chosen .0) refusal e (LineAbove chosen) (chosen-beyond n chosen a (ltb-true _ _ b)) refl
+      go true u a b = so (chosen .0) refusal e Length (chosen-length n chosen a) (in-block-tellable (chosen .0) Length (omega arith, omega arith))
+      go false true a b = so (chosen .0) refusal e (LineAbove chosen) (chosen-beyond n chosen a (ltb-true _ _ b)) (line-tellable chosen refl)
       go false false a b = never (chosen .0) refusal e (chosen-taken n chosen a (ltb-false _ _ b))
 
 -- ---- the two searches

@@ -30,7 +30,8 @@ fn main() {
     notes();
     kinds();
     first_records();
-    later_records();
+    second_heads();
+    tails();
     sizes();
     sizes_before_cuts();
     cuts();
@@ -109,7 +110,7 @@ fn kinds() {
     after_head(b"kind 5 of an absurd length:\xFF\xFF\xFF\xFF\x05\0");
 }
 
-// 12 for the first record, and the kind's high byte counts; then 13 for what is not the head. 12 comes before 13, and 13 before 14.
+// 12 for the first record, and the kind's high byte counts; then 17 for what is not the head. 12 comes before 17, and 17 before 14.
 fn first_records() {
     checked(b"kind 0 first:\0\0\0\0\0\0");
     checked(b"kind 5 first:\0\0\0\0\x05\0");
@@ -120,14 +121,27 @@ fn first_records() {
     checked(b"end first:\0\0\0\0\x04\0");
 }
 
-// 13 after the head: a second head, which comes before 14, and a byte after the end.
-fn later_records() {
+// 18 for a second head, which comes before 14, 11 for the payload and 15.
+fn second_heads() {
     after_head(b"second head:\x06\0\0\0\x01\0\x40\x1F\0\0\x02\0\0\0\0\0\x04\0");
+    after_head(
+        b"second head after a note:\x02\0\0\0\x03\0\x01\x02\x06\0\0\0\x01\0\x40\x1F\0\0\x02\0\0\0\0\0\x04\0",
+    );
     after_head(b"second head of length 5:\x05\0\0\0\x01\0\x40\x1F\0\0\x02");
-    after_head(b"byte after the end:\0\0\0\0\x04\0\0");
+    after_head(b"second head with no payload:\x06\0\0\0\x01\0");
+    after_head(b"second head of rate 0:\x06\0\0\0\x01\0\0\0\0\0\x02\0");
 }
 
-// 14 for whole records, which for an end comes before 13.
+// 19 for what comes after the end: one byte, a second end, a kind that no record has, or a head.
+fn tails() {
+    after_head(b"byte after the end:\0\0\0\0\x04\0\0");
+    after_head(b"byte after the end, which follows a note:\0\0\0\0\x03\0\0\0\0\0\x04\0\0");
+    after_head(b"second end:\0\0\0\0\x04\0\0\0\0\0\x04\0");
+    after_head(b"kind 5 after the end:\0\0\0\0\x04\0\0\0\0\0\x05\0");
+    after_head(b"head after the end:\0\0\0\0\x04\0\x06\0\0\0\x01\0\x40\x1F\0\0\x02\0");
+}
+
+// 14 for whole records, which for an end comes before 19.
 fn sizes() {
     checked(b"head of length 5:\x05\0\0\0\x01\0\x40\x1F\0\0\x02");
     checked(b"head of length 7:\x07\0\0\0\x01\0\x40\x1F\0\0\x02\0\0");

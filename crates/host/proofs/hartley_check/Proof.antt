@@ -4,7 +4,6 @@ use mathlib.Core.List.{List}
 use Prim.Native.Nat.{ℕ}
 use native.Mathlib.Omega.{arith}
 use Rattle.little_endian.specs.Reading.{Bytes}
-use Rattle.record.proofs.Places.{place-in-trace}
 use Rattle.trace.specs.Contents.{LONGEST, contents}
 use Rattle.trace.specs.TraceAnswers.{traceAnswer, contentsNumbers}
 use Rattle.trace.proofs.Fetching.{numbers-told}
@@ -17,7 +16,7 @@ use Rattle.host.proofs.hartley_check.Tie as tie
 -- r is the packed answer to the trace
 unpacks : (trace : List ℕ) (r : ℕ) → Bytes trace → r ≡ packedTrace (traceAnswer (contents trace)) → unpackedTrace r ≡ contentsNumbers (contents trace)
 unpacks trace r b e = ap unpackedTrace e
-    ∙ trace-unpacked (traceAnswer (contents trace)) (λ refusal q. omega (arith, place-in-trace LONGEST refusal (refused-range trace refusal (sym q)))) (λ head blocks q. accepted-range trace head blocks (sym q) b)
+    ∙ trace-unpacked (traceAnswer (contents trace)) (λ refusal q. omega (arith, refused-range trace refusal (sym q) .2)) (λ head blocks q. accepted-range trace head blocks (sym q) b)
     ∙ numbers-told (contents trace)
 
 check-requires : tie.Need-check-requires

@@ -5,7 +5,7 @@ use native.Mathlib.Omega.{arith}
 use Rattle.refusal.specs.declared.Refusal.{Refusal}
 use Rattle.refusal.specs.RefusalTable.{number, place}
 use Rattle.packing.specs.Packing.{packedRefusal}
-use Rattle.packing.proofs.Packing.{number-fits}
+use Rattle.refusal.proofs.Numbers.{number-fits}
 use Rattle.packing.proofs.packed_refusal.Statement.{statement}
 use Rattle.packing.proofs.packed_refusal.Tie as tie
 

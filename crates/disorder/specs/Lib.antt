@@ -1,0 +1,2 @@
+pub mod Formerly
+pub mod SideBySide
