@@ -23,6 +23,7 @@ use Rattle.record.specs.Fields.{HEAD, NOTE, END, PREFIX, size, kind, recordByte
 use Rattle.record.specs.Tests.{outside, headless, secondHead, wrongSize, incomplete, wrongHead, tailed, Test, verdict, tests}
 use Rattle.trace.specs.Contents.{LONGEST, Contents, holds, faulty, unlessFault, samples, records, contents}
 use Rattle.trace.specs.Contents as now
+use Rattle.record.proofs.RecordTests.{head-size}
 use Rattle.record.proofs.PassedRecords.{not-outside}
 use Rattle.disorder.specs.Formerly.{Former, held, refused, FormerTest, formerTests, unless, formerly}
 use Rattle.disorder.specs.Formerly as former
@@ -83,31 +84,33 @@ module _ (trace : List ℕ) where
 
   -- ---- one record
 
-  module _ (a : Former) (b : Contents) (h : SideBySide trace a b) where
+  module _ (a : Former) (b : Contents) where
     -- its tests after those of the order
     sized-on : (stage : Stage) (at : ℕ) (rest : List ℕ)
         → (wrongSize stage (kind rest) (size rest) ≡ false → tailed rest ≡ true → SideBySide trace (refused 13 (at + PREFIX)) (faulty (Tail (at + PREFIX))))
+        → (wrongSize stage (kind rest) (size rest) ≡ false → SideBySide trace a b)
         → SideBySide trace (unless (drop 3 (formerTests stage at rest)) a) (unlessFault (verdict (drop 4 (tests stage at rest))) b)
     unfolding tests
-    sized-on stage at rest found =
-        same a b _ _ _ (λ sized. same a b _ _ _ (λ whole. same a b _ _ _ (λ right. parted a b _ _ _ (λ none. no-more a b h)
+    sized-on stage at rest found h =
+        same a b _ _ _ (λ sized. same a b _ _ _ (λ whole. same a b _ _ _ (λ right. parted a b _ _ _ (λ none. no-more a b (h sized))
         (Tail (at + PREFIX)) (found sized)) (BadHead at) (omega arith)) (Cut at) (omega arith)) (Size at) (omega arith)
 
-    -- the first one
-    first-record : SideBySide trace (unless (formerTests Start 0 trace) a) (unlessFault (verdict (tests Start 0 trace)) b)
+    -- the first one, after which 12 bytes are read
+    first-record : (recordBytes trace ≡ 12 → SideBySide trace a b) → SideBySide trace (unless (formerTests Start 0 trace) a) (unlessFault (verdict (tests Start 0 trace)) b)
     unfolding tests headless secondHead
-    first-record =
-        same a b _ _ _ (λ six. same a b _ _ _ (λ known. parted a b _ _ _ (λ headed. idle a b _ _ (SecondHead 0) (sized-on Start 0 trace
-        (λ sized t. let e = ended trace t in let k = eqb-true (kind trace) HEAD (not-false _ headed) in absurd (omega (arith, e .kind-is)))))
+    first-record h =
+        same a b _ _ _ (λ six. same a b _ _ _ (λ known. parted a b _ _ _ (λ headed. let k = eqb-true (kind trace) HEAD (not-false _ headed) in
+        idle a b _ _ (SecondHead 0) (sized-on Start 0 trace (λ sized t. let e = ended trace t in absurd (omega (arith, e .kind-is)))
+        (λ sized. h (omega (arith, head-size Start (kind trace) (size trace) sized k)))))
         (Headless 0) (λ other. headless-now (ltb-false _ _ six) (above-head (kind trace) known other))) (Kind 0) (omega arith)) (Cut 0) (omega arith)
 
     -- one after the head, at byte `at`
-    later-record : (head : Head) (at : ℕ) → 1 ≤ at → let rest = drop at trace in
+    later-record : SideBySide trace a b → (head : Head) (at : ℕ) → 12 ≤ at → let rest = drop at trace in
         SideBySide trace (unless (formerTests (Headed head) at rest) a) (unlessFault (verdict (tests (Headed head) at rest)) b)
     unfolding tests headless secondHead
-    later-record head at l = let rest = drop at trace in
+    later-record h head at l = let rest = drop at trace in
         same a b _ _ _ (λ six. same a b _ _ _ (λ known. idle a b _ _ (Headless at) (parted a b _ _ _ (λ only. sized-on (Headed head) at rest
-        (λ sized t. let e = ended rest t in tail at l (omega (arith, e .long, length-drop at trace)) (e .kind-is) (empty-end head rest sized (e .kind-is))))
+        (λ sized t. let e = ended rest t in tail at l (omega (arith, e .long, length-drop at trace)) (e .kind-is) (empty-end head rest sized (e .kind-is))) (λ sized. h))
         (SecondHead at) (λ is-head. second-head at l (omega (arith, ltb-false (length rest) PREFIX six, length-drop at trace)) (eqb-true _ _ is-head)))) (Kind at) (omega arith)) (Cut at) (omega arith)
 
   -- ---- all of them
@@ -123,7 +126,7 @@ module _ (trace : List ℕ) where
   with-block xs (second-head at l six k) = second-head at l six k
   with-block xs (tail at l long k z) = tail at l long k z
 
-  later-records : (n : ℕ) (head : Head) (at : ℕ) → 1 ≤ at → SideBySide trace (former.walk n head at (drop at trace)) (now.walk n head at (drop at trace))
+  later-records : (n : ℕ) (head : Head) (at : ℕ) → 12 ≤ at → SideBySide trace (former.walk n head at (drop at trace)) (now.walk n head at (drop at trace))
   unfolding former.walk now.walk
   later-records zero head at l = unchanged (Cut at) (omega arith)
   later-records (suc n) head at l = let rest = drop at trace in
@@ -134,7 +137,7 @@ module _ (trace : List ℕ) where
   unfolding formerly contents records
   compared = let rest = following trace in let head = headIn trace in let at = recordBytes trace in
       same (former.walk (length rest) head at rest) (now.walk (length rest) head at rest) (ltb LONGEST (length trace)) (formerTests Start 0 trace) _
-      (λ short. first-record _ _ (later-records (length rest) head at (omega arith))) Long (omega arith)
+      (λ short. first-record _ _ (λ twelve. later-records (length rest) head at (omega arith))) Long (omega arith)
 
   -- so a trace is accepted exactly when it was, and holds what it held
   pub accepted-as-before : (head : Head) (blocks : List (List ℤ)) → (formerly trace ≡ held head blocks) ↔ (contents trace ≡ holds head blocks)

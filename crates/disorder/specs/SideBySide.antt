@@ -19,8 +19,8 @@ pub data SideBySide (trace : List ℕ) : Former → Contents → Type 0 where
   unchanged : (refusal : Refusal) → number refusal ≤ 15 → SideBySide trace (refused (number refusal) (place refusal)) (faulty refusal)
   -- refused by 13: at the same place, by 17 where the first record is not a head,
   headless : PREFIX ≤ length trace → HEAD < kind trace → SideBySide trace (refused 13 0) (faulty (Headless 0))
-  -- by 18 where a later record is a head,
-  second-head : (at : ℕ) → 1 ≤ at → at + PREFIX ≤ length trace → kind (drop at trace) ≡ HEAD → SideBySide trace (refused 13 at) (faulty (SecondHead at))
+  -- by 18 where a record after the head's twelve bytes is a head,
+  second-head : (at : ℕ) → 12 ≤ at → at + PREFIX ≤ length trace → kind (drop at trace) ≡ HEAD → SideBySide trace (refused 13 at) (faulty (SecondHead at))
   -- and by 19 where an end stands before the place, and a byte at it
-  tail : (at : ℕ) → 1 ≤ at → at + PREFIX < length trace → kind (drop at trace) ≡ END → size (drop at trace) ≡ 0
+  tail : (at : ℕ) → 12 ≤ at → at + PREFIX < length trace → kind (drop at trace) ≡ END → size (drop at trace) ≡ 0
       → SideBySide trace (refused 13 (at + PREFIX)) (faulty (Tail (at + PREFIX)))
