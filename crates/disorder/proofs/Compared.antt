@@ -25,6 +25,7 @@ use Rattle.trace.specs.Contents.{LONGEST, Contents, holds, faulty, unlessFault,
 use Rattle.trace.specs.Contents as now
 use Rattle.record.proofs.RecordTests.{head-size}
 use Rattle.record.proofs.PassedRecords.{not-outside}
+use Rattle.record.proofs.Places.{empty-end}
 use Rattle.disorder.specs.Formerly.{Former, held, refused, FormerTest, formerTests, unless, formerly}
 use Rattle.disorder.specs.Formerly as former
 use Rattle.disorder.specs.SideBySide.{SideBySide, accepted, unchanged, headless as headless-now, second-head, tail}
@@ -36,17 +37,13 @@ above-head : (k : ℕ) → outside HEAD END k ≡ false → not (eqb k HEAD) ≡
 above-head k known other = let l = not-outside HEAD END k known in let differs = eqb-false k HEAD (not-true (eqb k HEAD) other) in
     ⊎-elim (λ e. absurd (differs (sym e))) (λ h. h) (eq-or-lt-of-le (l .0))
 
--- a byte stands after an end, which has passed 14
+-- a byte stands after an end
 record Ended (rest : List ℕ) : Type 0 where
   kind-is : kind rest ≡ END
   long : PREFIX < length rest
 
 ended : (rest : List ℕ) → tailed rest ≡ true → Ended rest
 ended rest t = let b = both (eqb (kind rest) END) (ltb PREFIX (length rest)) .0 t in record { kind-is = eqb-true _ _ (b .0); long = ltb-true _ _ (b .1) }
-
-empty-end : (head : Head) (rest : List ℕ) → wrongSize (Headed head) (kind rest) (size rest) ≡ false → kind rest ≡ END → size rest ≡ 0
-unfolding wrongSize
-empty-end head rest sized k = eqb-true _ _ (not-false _ (rw k at sized))
 
 module _ (trace : List ℕ) where
   -- ---- one test of both rules: where it finds no fault, those after it decide
@@ -110,7 +107,7 @@ module _ (trace : List ℕ) where
     unfolding tests headless secondHead
     later-record h head at l = let rest = drop at trace in
         same a b _ _ _ (λ six. same a b _ _ _ (λ known. idle a b _ _ (Headless at) (parted a b _ _ _ (λ only. sized-on (Headed head) at rest
-        (λ sized t. let e = ended rest t in tail at l (omega (arith, e .long, length-drop at trace)) (e .kind-is) (empty-end head rest sized (e .kind-is))) (λ sized. h))
+        (λ sized t. let e = ended rest t in tail at l (omega (arith, e .long, length-drop at trace)) (e .kind-is) (empty-end (Headed head) (kind rest) (size rest) sized (e .kind-is))) (λ sized. h))
         (SecondHead at) (λ is-head. second-head at l (omega (arith, ltb-false (length rest) PREFIX six, length-drop at trace)) (eqb-true _ _ is-head)))) (Kind at) (omega arith)) (Cut at) (omega arith)
 
   -- ---- all of them
