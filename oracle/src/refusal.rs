@@ -1,4 +1,4 @@
-//! Section "Refused input".
+//! Section "Refused input". In place of its 13 stand the three numbers of document 02, Item 3.
 
 /// "A refusal is the number and place".
 #[derive(Debug, Clone, Copy, PartialEq, Eq)]
@@ -14,10 +14,12 @@ pub const LINE: u64 = 4;
 pub const LONG: u64 = 10;
 pub const CUT: u64 = 11;
 pub const KIND: u64 = 12;
-pub const ORDER: u64 = 13;
 pub const SIZE: u64 = 14;
 pub const HEAD: u64 = 15;
 pub const ABSENT: u64 = 16;
+pub const HEADLESS: u64 = 17;
+pub const SECOND_HEAD: u64 = 18;
+pub const TAIL: u64 = 19;
 
 /// "the first fault found decides": where the fault holds, the call ends with this refusal.
 pub fn refuse_if(fault: bool, number: u64, place: usize) -> Result<(), Refusal> {

@@ -1,6 +1,7 @@
 //! The samples of document 01, its refusals, and the bound E; and what document 02 amends.
 
 use oracle::*;
+use std::collections::BTreeMap;
 use std::io::Write;
 use std::process::{Command, Stdio};
 
@@ -34,6 +35,13 @@ fn after_head(rest: &[u8]) -> Vec<u8> {
     let mut trace = record(1, &head(8000, 2));
     trace.extend(rest);
     trace
+}
+
+/// What can stand between the head of P = 2 and the end: nothing, and blocks and notes.
+fn between() -> Vec<Vec<u8>> {
+    let (block, note) = (record(2, &[1, 0, 2, 0, 3, 0, 4, 0]), record(3, &[7; 255]));
+    let several = [block.clone(), note.clone(), record(3, &[]), block.clone()].concat();
+    vec![Vec::new(), block, note, several]
 }
 
 /// The cells in the old host's form.
@@ -487,20 +495,105 @@ fn refused_traces() {
     assert_eq!(contents(&[6, 0, 0, 0, 1]), refused(11, 0));
     assert_eq!(contents(&[6, 0, 0, 0, 1, 0, 9]), refused(11, 0));
     assert_eq!(contents(&[7, 0, 0, 0, 5, 0]), refused(12, 0));
-    assert_eq!(contents(&[7, 0, 0, 0, 4, 0]), refused(13, 0));
+    assert_eq!(contents(&[7, 0, 0, 0, 4, 0]), refused(17, 0));
     assert_eq!(contents(&[7, 0, 0, 0, 1, 0]), refused(14, 0));
     assert_eq!(contents(&record(1, &head(0, 2))), refused(15, 0));
     assert_eq!(contents(&record(1, &head(1, 0))), refused(15, 0));
     assert_eq!(contents(&record(1, &head(1, 11))), refused(15, 0));
     assert_eq!(contents(&record(1, &head(1, 10))), refused(11, 12));
     assert_eq!(contents(&after_head(&end[0..5])), refused(11, 12));
-    assert_eq!(contents(&after_head(&record(1, &[]))), refused(13, 12));
+    assert_eq!(contents(&after_head(&record(1, &[]))), refused(18, 12));
     assert_eq!(contents(&after_head(&record(2, &[0; 4]))), refused(14, 12));
     assert_eq!(contents(&after_head(&record(2, &[0; 10]))), refused(14, 12));
     assert_eq!(contents(&after_head(&record(2, &[0; 8])[0..13])), refused(11, 12));
     assert_eq!(contents(&after_head(&record(3, &[0; 256]))), refused(14, 12));
     assert_eq!(contents(&after_head(&record(4, &[0]))), refused(14, 12));
-    assert_eq!(contents(&after_head(&[end, vec![9; 7]].concat())), refused(13, 18));
+    assert_eq!(contents(&after_head(&[end, vec![9; 7]].concat())), refused(19, 18));
+}
+
+/// Document 02, Item 3: "17 headless (first record is not a head)". The place is that record's first byte.
+#[test]
+fn headless_traces() {
+    let trace = after_head(&record(4, &[]));
+    for first in [record(2, &[0; 8]), record(3, &[]), record(3, &[7; 255]), record(4, &[])] {
+        assert_eq!(contents(&first), refused(17, 0));
+        assert_eq!(contents(&[&first[..], &trace].concat()), refused(17, 0)); // a head as second record
+        assert_eq!(contents(&first[..5]), refused(11, 0)); // 11 (six bytes) before 17
+    }
+    // 17 before 14, and before 11 (payload): lengths that are right for no P
+    for (kind, length) in [(2, 0), (2, 3), (2, 4_096), (3, 256), (4, 1)] {
+        let first = record(kind, &vec![0; length]);
+        assert_eq!(contents(&first), refused(17, 0));
+        assert_eq!(contents(&first[..6]), refused(17, 0));
+    }
+    // 12 before 17
+    for kind in [0, 5, 256, 257, 258, 65_535] {
+        assert_eq!(contents(&[record(kind, &[0; 6]), trace.clone()].concat()), refused(12, 0));
+    }
+    // 10 before 17
+    assert_eq!(contents(&[record(4, &[]), vec![0; 65_530]].concat()), refused(17, 0));
+    assert_eq!(contents(&[record(4, &[]), vec![0; 65_531]].concat()), refused(10, 0));
+}
+
+/// "18 second head". The place is the second head's first byte.
+#[test]
+fn second_heads() {
+    let right = record(1, &head(8000, 2));
+    let lengths = [0, 5, 7, 256].map(|length| record(1, &vec![1; length])); // 18 before 14
+    let values = [(0, 2), (8000, 0), (8000, 11)].map(|(rate, p)| record(1, &head(rate, p))); // 18 before 15
+    for records in between() {
+        let before = after_head(&records);
+        let place = before.len() as u64;
+        for second in [&[right.clone(), record(1, &head(1, 10))][..], &lengths, &values].concat() {
+            assert_eq!(contents(&[&before[..], &second].concat()), refused(18, place));
+            assert_eq!(contents(&[before.clone(), second, record(4, &[])].concat()), refused(18, place));
+        }
+        // 11 (six bytes) before 18, and 18 before 11 (payload)
+        assert_eq!(contents(&[&before[..], &right[..5]].concat()), refused(11, place));
+        assert_eq!(contents(&[&before[..], &right[..6]].concat()), refused(18, place));
+    }
+    // a fault of the first head is found first
+    assert_eq!(contents(&[record(1, &head(0, 2)), right.clone()].concat()), refused(15, 0));
+    assert_eq!(contents(&[record(1, &[1; 7]), right].concat()), refused(14, 0));
+}
+
+/// "19 tail (a byte after the end)". The place is that byte.
+#[test]
+fn tails() {
+    let bytes = [vec![0], vec![4], vec![0; 5], vec![0; 6], vec![9; 7], vec![0; 300]];
+    let records = [record(4, &[]), record(2, &[0; 8]), record(3, &[7]), record(1, &head(8000, 2)), record(4, &[0])];
+    for held in between() {
+        let trace = after_head(&[held, record(4, &[])].concat());
+        assert!(contents(&trace).is_ok());
+        for tail in bytes.iter().chain(&records) {
+            assert_eq!(contents(&[&trace[..], tail].concat()), refused(19, trace.len() as u64));
+        }
+        assert_eq!(contents(&[&trace[..], &trace].concat()), refused(19, trace.len() as u64));
+        // 10 before 19
+        let most = vec![0; 65_536 - trace.len()];
+        assert_eq!(contents(&[&trace[..], &most].concat()), refused(19, trace.len() as u64));
+        assert_eq!(contents(&[&trace[..], &most, &[0]].concat()), refused(10, 0));
+    }
+    // 14 before 19: "once the end's own length has passed 14"
+    for tail in [vec![], vec![0], vec![0; 2], record(4, &[])] {
+        assert_eq!(contents(&after_head(&[record(4, &[0]), tail.clone()].concat())), refused(14, 12));
+        assert_eq!(contents(&after_head(&[&[1, 0, 0, 0, 4, 0], &tail[..]].concat())), refused(14, 12));
+    }
+}
+
+/// "Which traces are accepted doesn't change", and 13 "is no longer given": every order of four records, counted by
+/// hand. 192 have no head first. Of the other 64 the second record is a head or an end in 16 each; of the 32 left the
+/// third is such in 8 each; and of the 16 left the fourth is a head in 4, the end in 4, and in 8 there is no end.
+#[test]
+fn every_order_of_four_records() {
+    let records = [record(1, &head(8000, 2)), record(2, &[0; 8]), record(3, &[7]), record(4, &[])];
+    let mut numbers = BTreeMap::new();
+    for order in 0..256 {
+        let trace = [64, 16, 4, 1].map(|place| records[order / place % 4].clone()).concat();
+        let number = contents(&trace).map_or_else(|refusal| refusal.number, |_| 0);
+        *numbers.entry(number).or_insert(0) += 1;
+    }
+    assert_eq!(numbers, BTreeMap::from([(0, 4), (11, 8), (17, 192), (18, 16 + 8 + 4), (19, 16 + 8)]));
 }
 
 #[test]
@@ -510,6 +603,12 @@ fn fetches() {
     assert_eq!(fetch(&SAMPLE_TRACE, 1, 5), refused(16, 1));
     assert_eq!(fetch(&SAMPLE_TRACE, u64::MAX, 4), refused(16, u64::MAX));
     assert_eq!(fetch(&SAMPLE_TRACE[0..31], 1, 5), refused(11, 26));
+    // which disorder (document 02, Item 3), whether or not the block is there and the cells fit
+    for (k, lent) in [(0, 4), (0, 5), (1, 4), (1, 5)] {
+        assert_eq!(fetch(&SAMPLE_TRACE[12..], k, lent), refused(17, 0));
+        assert_eq!(fetch(&[&SAMPLE_TRACE[..26], &SAMPLE_TRACE].concat(), k, lent), refused(18, 26));
+        assert_eq!(fetch(&[&SAMPLE_TRACE[..], &[0]].concat(), k, lent), refused(19, 32));
+    }
 }
 
 /// Three blocks of two, with notes between them, before them and after them.
@@ -543,6 +642,9 @@ fn listings() {
     assert_eq!(listing(&SAMPLE_TRACE), SAMPLE_LISTING.as_bytes());
     assert_eq!(listing(&SAMPLE_TRACE[0..31]), b"refused 11 26\n");
     assert_eq!(listing(&[]), b"refused 11 0\n");
+    assert_eq!(listing(&SAMPLE_TRACE[12..]), b"refused 17 0\n");
+    assert_eq!(listing(&after_head(&SAMPLE_TRACE)), b"refused 18 12\n");
+    assert_eq!(listing(&[&SAMPLE_TRACE[..], &SAMPLE_TRACE[26..]].concat()), b"refused 19 32\n");
     let empty = after_head(&record(4, &[]));
     assert_eq!(listing(&empty), b"trace 8000 4 0\nend\n");
 }

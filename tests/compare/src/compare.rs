@@ -4,6 +4,7 @@
 use crate::archive::{self, Lent};
 use crate::call::Call;
 use crate::cases::{self, Case};
+use crate::disorders;
 use crate::inputs::{cells_of, negated};
 use crate::random::Random;
 use crate::report::{found, packed, packed_trace, Run};
@@ -211,6 +212,9 @@ impl Comparison {
         self.same_lent(&run, "trace", &lent, trace);
         self.same_trace(&run, answer, &second);
         self.count_trace(Call::Check, sort, &second, trace);
+        if let Err(refusal) = second {
+            self.tally.count_forms(&disorders::forms(trace, refusal));
+        }
         answer
     }
 

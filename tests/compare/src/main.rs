@@ -5,6 +5,7 @@ mod archive;
 mod call;
 mod cases;
 mod compare;
+mod disorders;
 mod double;
 mod fetches;
 mod inputs;
@@ -44,6 +45,7 @@ fn main() {
     worked::samples(&mut c);
     let worked = std::mem::take(&mut c.tally).inputs; // the others are to be complete without them
     small_traces(&mut c);
+    every_order(&mut c);
     for _ in 0..rounds {
         for p in 1..=10 {
             blocks(&mut c, p);
@@ -199,6 +201,23 @@ fn small_traces(c: &mut Comparison) {
     }
 }
 
+/// Every order of up to four records, each right in itself, alone and with one byte more; all of them are listed.
+fn every_order(c: &mut Comparison) {
+    let records =
+        [traces::head(8000, 1), traces::record(2, vec![1, 0, 2, 0]), traces::record(3, vec![7]), traces::end()];
+    for (count, orders) in [(1, 4), (2, 16), (3, 64), (4, 256)] {
+        for order in 0..orders {
+            let chosen = [64, 16, 4, 1].map(|place| records[order / place % 4].clone());
+            let trace = traces::bytes(&chosen[4 - count..]);
+            let longer = [&trace[..], &[0]].concat();
+            for (sort, given) in [("every order of records", trace), ("every order, one byte more", longer)] {
+                check_and_fetch(c, sort, &given);
+                c.list(sort, &given);
+            }
+        }
+    }
+}
+
 /// Random traces, short and full, accepted and damaged, and bytes that are no trace.
 fn traces(c: &mut Comparison) {
     for round in 0..TRACES {
@@ -211,7 +230,7 @@ fn traces(c: &mut Comparison) {
             let trace = traces::damaged(damage, &records, &mut c.random);
             trace_call(c, damage, &trace);
         }
-        for _ in 0..8 {
+        for _ in 0..6 {
             let trace = traces::any_records(&mut c.random);
             trace_call(c, "any records", &trace);
         }

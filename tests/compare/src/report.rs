@@ -5,6 +5,7 @@ use crate::archive::{self, Lent};
 use crate::call::Call;
 use crate::compare::Comparison;
 use crate::double;
+use crate::tally;
 use oracle::{Contents, Fraction, Refusal};
 use std::process::exit;
 
@@ -50,13 +51,17 @@ pub fn packed_trace(second: &Result<Contents, Refusal>) -> u64 {
 }
 
 impl Comparison {
-    /// An answer as a number, and what the unpacking calls say of it: the number of the refusal, and then its place.
+    /// An answer as a number, and what the unpacking calls say of it: the number of the refusal, and then its place. A
+    /// number that both programs give is one of the papers'; 13 is none any longer (document 02, Item 3).
     pub fn same_answer(&self, run: &Run, answer: u64, second: u64) {
         let [number, place, _] = archive::unpacked(answer);
         self.same(run, "answer", answer, second);
         self.same(run, "hartley_number", number, second % 256);
         if second % 256 != 0 {
             self.same(run, "hartley_place", place, second / 256);
+        }
+        if !tally::in_the_papers(run.call, number) {
+            self.differ(run, &format!("number {number}, which the papers do not have for this call"));
         }
     }
 

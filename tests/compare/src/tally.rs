@@ -2,6 +2,7 @@
 
 use crate::call::Call;
 use crate::cases::Case;
+use crate::disorders::Form;
 use oracle::Scaled;
 use std::collections::{BTreeMap, BTreeSet};
 use std::process::exit;
@@ -16,10 +17,16 @@ const ANSWERS: [(Call, &[usize], &[usize]); 10] = [
     (Call::Scaled, &[0, 3, 4], &[1]),
     (Call::Strongest, &[0, 4], &[1]),
     (Call::Nearest, &[0, 4], &[1]),
-    (Call::Check, &[0], &[10, 11, 12, 13, 14, 15]),
-    (Call::Fetch, &[0, 2, 16], &[10, 11, 12, 13, 14, 15]),
-    (Call::List, &[0], &[10, 11, 12, 13, 14, 15]),
+    (Call::Check, &[0], &[10, 11, 12, 14, 15, 17, 18, 19]),
+    (Call::Fetch, &[0, 2, 16], &[10, 11, 12, 14, 15, 17, 18, 19]),
+    (Call::List, &[0], &[10, 11, 12, 14, 15, 17, 18, 19]),
 ];
+
+/// Whether the papers have this number for a call, 0 being no refusal.
+pub fn in_the_papers(call: Call, number: u64) -> bool {
+    let has = |numbers: &[usize]| numbers.iter().any(|its| *its as u64 == number);
+    ANSWERS.iter().any(|(its, at_every_p, others)| *its == call && (has(at_every_p) || has(others)))
+}
 
 /// Faults that an input can have together, in the order of their tests: the first decides.
 const TOGETHER: [(Call, [u64; 2]); 12] = [
@@ -37,10 +44,10 @@ const TOGETHER: [(Call, [u64; 2]); 12] = [
     (Call::Fetch, [16, 2]),
 ];
 
-const NUMBERS: [usize; 11] = [1, 2, 3, 4, 10, 11, 12, 13, 14, 15, 16];
+const NUMBERS: [usize; 13] = [1, 2, 3, 4, 10, 11, 12, 14, 15, 16, 17, 18, 19];
 
 /// Inputs of a call and a sort: how many were accepted, refused by 1, by 2 and so on.
-type Rows = BTreeMap<(Call, &'static str), [u64; 17]>;
+type Rows = BTreeMap<(Call, &'static str), [u64; 20]>;
 
 /// Blocks that a call took with their negatives, and the halves that its divisions met, above and below zero.
 #[derive(Default)]
@@ -76,6 +83,8 @@ pub struct Tally {
     fetched: [[u64; 3]; 11],
     /// The cases of the searches, with the least P of each: how often it was seen at each P.
     cases: BTreeMap<(Call, &'static str, usize), [u64; 11]>,
+    /// The forms of the traces that check refused: how often each was seen.
+    forms: BTreeMap<&'static str, u64>,
     /// For each P the blocks measured, and the largest distance, times 2^60.
     pub measured: [u64; 11],
     pub farthest: [i128; 11],
@@ -135,6 +144,13 @@ impl Tally {
         }
     }
 
+    /// Counts a refused trace, for each form whether it has it.
+    pub fn count_forms(&mut self, forms: &[Form]) {
+        for &(form, shown) in forms {
+            *self.forms.entry(form).or_default() += u64::from(shown);
+        }
+    }
+
     /// Counts a refused block if it was loud as well, and if the line was above N/2 as well.
     pub fn count_faults(&mut self, call: Call, number: u64, cells: &[i64], line: Option<u64>) {
         if number < 3 {
@@ -177,6 +193,10 @@ impl Tally {
         println!("and {} blocks that forward takes without the negative", self.only_one_sign);
         self.print_each_p();
         self.print_cases();
+        println!("\nforms of the traces that check refused");
+        for (form, count) in &self.forms {
+            println!("{form:50}{count:>7}");
+        }
     }
 
     fn print_cases(&self) {
@@ -244,6 +264,9 @@ impl Tally {
             for p in (*least..=10).filter(|&p| counts[p] == 0) {
                 lacking.push(format!("{call:?} has not shown, at P {p}: {case}"));
             }
+        }
+        for (form, _) in self.forms.iter().filter(|(_, count)| **count == 0) {
+            lacking.push(format!("Check has not shown {form}"));
         }
         lacking
     }

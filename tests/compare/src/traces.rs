@@ -8,9 +8,10 @@ use crate::random::Random;
 pub const LONGEST: usize = 65_536;
 
 /// The ways to damage a trace; the last takes two of the others.
-pub const DAMAGES: [&str; 15] = [
+pub const DAMAGES: [&str; 17] = [
     "undamaged", "cut", "changed byte", "changed record head", "changed length", "unknown kind", "exchanged records",
-    "second head", "doubled record", "rate 0", "wrong P", "tail", "byte put in", "byte left out", "two damages",
+    "head left out", "second head", "doubled record", "rate 0", "wrong P", "record after the end", "tail",
+    "byte put in", "byte left out", "two damages",
 ];
 
 /// One record. Its length field may differ from the length of its payload.
@@ -125,7 +126,7 @@ pub fn filled(count: usize, random: &mut Random) -> Vec<Record> {
 pub fn damaged(damage: &'static str, records: &[Record], random: &mut Random) -> Vec<u8> {
     let mut damages = vec![damage];
     if damage == "two damages" {
-        damages = vec![random.pick(&DAMAGES[..14]), random.pick(&DAMAGES[..14])];
+        damages = vec![random.pick(&DAMAGES[..16]), random.pick(&DAMAGES[..16])];
     }
     let mut records = records.to_vec();
     for damage in &damages {
@@ -154,7 +155,20 @@ fn damage_records(damage: &str, records: &mut Vec<Record>, random: &mut Random) 
         }
         "unknown kind" => records[one].kind = random.pick(&[0, 5, 256, 257, 65_535, any as u16 | 8]),
         "exchanged records" => records.swap(one, other),
-        "second head" => records.insert(one + 1, records[0].clone()),
+        "head left out" if records.len() > 1 => {
+            records.remove(0);
+            let right = records[0].length;
+            records[0].length = random.pick(&[right, right, right, 1, 256, any as u32]);
+        }
+        "second head" if records.len() > 1 => {
+            let (second, at) = (second_head(&records[0], random), one.max(1));
+            if random.once_in(2) {
+                records.insert(at, second);
+            } else {
+                records[at] = second; // so that a full trace is not made longer
+            }
+        }
+        "record after the end" => records.push(records[one].clone()),
         "doubled record" => records.insert(one, records[one].clone()),
         "rate 0" if records[0].payload.len() >= 6 => records[0].payload[..4].fill(0),
         "wrong P" if records[0].payload.len() >= 6 => {
@@ -165,13 +179,22 @@ fn damage_records(damage: &str, records: &mut Vec<Record>, random: &mut Random) 
     }
 }
 
+/// A second head: the first once more, another one, and such as have a fault of their own.
+fn second_head(first: &Record, random: &mut Random) -> Record {
+    let p = random.between(1, 10) as u16;
+    let count = random.below(20);
+    let heads = [any_head(p, random), head(0, p), head(1, p + 10), record(1, random.bytes(count))];
+    random.pick(&[first, first, &heads[0], &heads[1], &heads[2], &heads[3]]).clone()
+}
+
 fn damage_bytes(damage: &str, trace: &mut Vec<u8>, random: &mut Random) {
     let at = random.below(trace.len().max(1));
     match damage {
         "cut" => trace.truncate(at),
         "tail" => {
-            let count = 1 + random.below(12);
-            trace.extend(random.bytes(count));
+            let any = 1 + random.below(12);
+            let count = random.pick(&[1, any, any]);
+            trace.extend(if random.once_in(4) { vec![0; count] } else { random.bytes(count) });
         }
         "byte put in" => trace.insert(at, random.next() as u8),
         "changed byte" if !trace.is_empty() => trace[at] ^= random.between(1, 255) as u8,

@@ -29,6 +29,7 @@ pub fn samples(c: &mut Comparison) {
     strongest_lines(c);
     nearest_lines(c);
     traces(c);
+    disorders(c);
     fetches(c);
 }
 
@@ -186,6 +187,39 @@ fn traces(c: &mut Comparison) {
     trace(c, &[], refused(11, 0), "refused 11 0\n");
     trace(c, &note(255), accepted(8000, 2, 0), "trace 8000 4 0\nend\n");
     trace(c, &note(256), refused(14, 12), "refused 14 12\n");
+}
+
+/// Which disorder (document 02, Item 3): "17 headless (first record is not a head), 18 second head, 19 tail (a byte
+/// after the end)", "with the old places".
+fn disorders(c: &mut Comparison) {
+    let (first, block, last) = (&TRACE[..12], &TRACE[12..26], &TRACE[26..]);
+    let (short_note, no_kind) = (bytes(&[record(3, vec![7])]), bytes(&[record(5, Vec::new())]));
+    let (long_head, long_end) = (bytes(&[record(1, vec![1; 7])]), bytes(&[record(4, vec![0])]));
+    let no_rate = bytes(&[head(0, 2)]);
+    for (records, number, place) in [
+        (vec![block, last], 17, 0),
+        (vec![&short_note, &TRACE], 17, 0),
+        (vec![last], 17, 0),
+        (vec![&long_end], 17, 0),       // 17 before 14
+        (vec![&no_kind, first], 12, 0), // 12 before 17
+        (vec![first, first, last], 18, 12),
+        (vec![first, block, first], 18, 26),
+        (vec![first, block, &short_note, first], 18, 33),
+        (vec![first, &long_head], 18, 12), // 18 before 14
+        (vec![first, &no_rate], 18, 12),   // 18 before 15
+        (vec![&TRACE, &[0]], 19, 32),
+        (vec![&TRACE, &[9; 7]], 19, 32),
+        (vec![&TRACE, last], 19, 32),
+        (vec![&TRACE, block, last], 19, 32),
+        (vec![&TRACE, &TRACE], 19, 32),
+        (vec![first, &long_end], 14, 12), // 14 before 19
+        (vec![first, &long_end, last], 14, 12),
+    ] {
+        let (given, answer) = (records.concat(), refused(number, place));
+        trace(c, &given, answer, &format!("refused {number} {place}\n"));
+        let cells = c.random.bytes(32);
+        assert_eq!(c.fetch(SORT, &given, 0, &cells), (answer, cells), "block 0 of {given:02X?}");
+    }
 }
 
 /// A trace without blocks, with a note of so many bytes.
