@@ -23,9 +23,9 @@
  * Version: header and archive may be of different days, so a host compares hartley_version() with HARTLEY_VERSION at
  * its start. docs/CHANGES.md says what has changed. Version 2 has two calls more, hartley_strongest and
  * hartley_nearest, and two that read their answers, hartley_found and hartley_line; all of version 1 is as it was. In
- * version 3 the refusals 17, 18 and 19 stand where 13, HARTLEY_ORDER, stood. 13 is no longer given, and its name is
- * gone. A host that asked for 13 asks for the three: where it used the name the compiler says so, where it wrote the
- * number nothing does. Which traces are accepted, all places and every other answer are as they were in version 2.
+ * version 3 the refusals 17, 18 and 19 stand where 13, order, stood. 13 is no longer given, and its name is gone. A
+ * host that asked for 13 asks for the three: where it used the name the compiler says so, where it wrote the number
+ * only the version does. Which traces are accepted, all places and every other answer are as they were in version 2.
  */
 #ifndef HARTLEY_H
 #define HARTLEY_H

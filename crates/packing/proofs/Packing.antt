@@ -34,7 +34,7 @@ use Rattle.trace.specs.TraceAnswers.{traceAnswerNumbers}
 use Rattle.search.specs.declared.SearchAnswer.{SearchAnswer}
 use Rattle.search.specs.declared.SearchAnswer.the-variants.{Found, None, Refused as SearchRefused}
 use Rattle.search.specs.SearchAnswers.{searchNumbers}
-use Rattle.packing.specs.Packing.{blocksIn, caseNumbers, caseOf, foundIn, lineIn, numberIn, packed, packedRefusal, packedScaled, packedSearch, packedTrace, pIn, placeFor, placeIn, rateIn, unlessRefused, unpackedBlock, unpackedFetch, unpackedScaled, unpackedSearch, unpackedTrace}
+use Rattle.packing.specs.Packing.{blocksIn, caseNumbers, caseOf, numberIn, packed, packedRefusal, packedScaled, packedSearch, packedTrace, pIn, placeFor, placeIn, rateIn, unlessRefused, unpackedBlock, unpackedFetch, unpackedScaled, unpackedSearch, unpackedTrace}
 
 -- ---- a refusal
 

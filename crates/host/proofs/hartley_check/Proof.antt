@@ -4,7 +4,7 @@ use mathlib.Core.List.{List}
 use Prim.Native.Nat.{ℕ}
 use native.Mathlib.Omega.{arith}
 use Rattle.little_endian.specs.Reading.{Bytes}
-use Rattle.trace.specs.Contents.{LONGEST, contents}
+use Rattle.trace.specs.Contents.{contents}
 use Rattle.trace.specs.TraceAnswers.{traceAnswer, contentsNumbers}
 use Rattle.trace.proofs.Fetching.{numbers-told}
 use Rattle.trace.proofs.Ranges.{accepted-range, refused-range}
