@@ -31,10 +31,14 @@ unfoldable pub misfit : ℕ → List ℕ → Bool
 misfit wanted [] = false
 misfit wanted (n ∷ ns) = not (eqb n wanted) || misfit wanted ns
 
--- 3, loud: the place of the first cell outside low to high, or the number of cells where there is none
+-- 3, loud: whether a cell is outside low to high
+abbrev pub loud : ℤ → ℤ → ℤ → Bool
+loud low high x = ltZ x low || ltZ high x
+
+-- the place of the first such cell, or the number of cells where there is none
 unfoldable pub firstLoud : ℤ → ℤ → List ℤ → ℕ
 firstLoud low high [] = 0
-firstLoud low high (x ∷ xs) = cond (ltZ x low || ltZ high x) 0 (suc (firstLoud low high xs))
+firstLoud low high (x ∷ xs) = cond (loud low high x) 0 (suc (firstLoud low high xs))
 
 -- 1, 2 and 3 in turn: for cells of low to high, and for outputs that should have N/2 + 1 cells each
 unfoldable pub tested : ℤ → ℤ → List ℕ → List ℤ → BlockVerdict

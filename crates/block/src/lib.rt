@@ -4,15 +4,15 @@ use kind::KindFound;
 use kind::Line;
 use refusal::Refusal;
 ghost use mathlib.Core.Path.{_≡_};
-ghost use Rattle.block.specs.Tests.{firstLoud, misfit, tested, testedLine, testedSamples, testedSpectrum};
+ghost use Rattle.block.specs.Tests.{firstLoud, loud, misfit, tested, testedLine, testedSamples, testedSpectrum};
 ghost use Rattle.block.specs.TestTable.{lineNumbers, samplesNumbers, spectrumNumbers};
 ghost use Rattle.block.specs.BlockAnswers.{blockNumbers};
 
 // The least sample.
-const LEAST_SAMPLE: i64 = -32768;
+pub const LEAST_SAMPLE: i64 = -32768;
 
 // The largest sample.
-const LARGEST_SAMPLE: i64 = 32767;
+pub const LARGEST_SAMPLE: i64 = 32767;
 
 // How loud a line of a lent spectrum may be, to either side: 2^28.
 const LOUDEST_LINE: i64 = 268435456;
@@ -96,14 +96,20 @@ fn misfit(wanted: usize, outputs: &[usize]) -> bool
     false
 }
 
+// Whether a cell is outside low to high.
+pub fn loud(low: i64, high: i64, x: i64) -> bool
+    ensures { λ r. ⌜ r ≡ loud low high x ⌝ }
+{
+    x < low || high < x
+}
+
 // The place of the first cell outside low to high, or the number of cells where there is none.
-fn first_loud(low: i64, high: i64, cells: &[i64]) -> usize
+pub fn first_loud(low: i64, high: i64, cells: &[i64]) -> usize
     ensures { λ r. ⌜ r ≡ firstLoud low high (now (cells .entry)) ⌝ }
 {
     let mut i = 0;
     while i < cells.len() {
-        let x = cells[i];
-        if x < low || high < x {
+        if loud(low, high, cells[i]) {
             return i;
         }
         i += 1;

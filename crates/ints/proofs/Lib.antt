@@ -14,3 +14,4 @@ pub mod Slices
 pub mod Mirror
 pub mod Negation
 pub mod Writing
+pub mod Putting

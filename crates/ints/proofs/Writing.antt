@@ -26,6 +26,11 @@ module _ {A : Type 0} where
   unfolding written
   written-reaches xs at ys h = simp (length-append, length-take, length-drop) (omega arith)
 
+  -- and where there is room for it, the list keeps its length
+  pub length-written : (xs : List A) (at : ℕ) (ys : List A) → at + length ys ≤ length xs → length (written xs at ys) ≡ length xs
+  unfolding written
+  length-written xs at ys h = simp (length-append, length-take, length-drop) (omega arith)
+
   -- first ys, and zs from its end on
   pub written-more : (xs : List A) (at : ℕ) (ys zs : List A) → at + length ys ≤ length xs → written (written xs at ys) (at + length ys) zs ≡ written xs at (ys ++ zs)
   unfolding written

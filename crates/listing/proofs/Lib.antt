@@ -1,3 +1,3 @@
-mod Putting
+mod Fields
 mod Sizes
 mod Blocks
