@@ -50,6 +50,13 @@ module _ (a b m : ℕ) (ha : a ≤ m) (hb : b ≤ m) where
   quiet (x ∷ xs) h zero = let p = neither (ltZ x (negℤ (pos a))) (ltZ (pos b) x) (length xs) _ h in between a b m x ha hb (p .0) (p .1)
   quiet (x ∷ xs) h (suc k) = let p = neither (ltZ x (negℤ (pos a))) (ltZ (pos b) x) (length xs) _ h in quiet xs (p .2) k
 
+-- every cell lies within the limits, and so does 0, which stands past the last
+pub quiet-cells : (low high : ℤ) → low ≼ pos 0 → pos 0 ≼ high → (xs : List ℤ) → length xs ≤ firstLoud low high xs → (k : ℕ) → (low ≼ cell xs k) × (cell xs k ≼ high)
+unfolding firstLoud
+quiet-cells low high a b [] h k = (a, b)
+quiet-cells low high a b (x ∷ xs) h zero = let p = neither (ltZ x low) (ltZ high x) (length xs) _ h in (ltZ-no (rw (p .0) tt), ltZ-no (rw (p .1) tt))
+quiet-cells low high a b (x ∷ xs) h (suc k) = let p = neither (ltZ x low) (ltZ high x) (length xs) _ h in quiet-cells low high a b xs (p .2) k
+
 -- ---- a test that is passed
 
 not-both : {A : Type 0} (refusal : Refusal) (kind : BlockKind) → Refused refusal ≡ Taken kind → A
@@ -122,7 +129,7 @@ taken-line line xs kind e = let p = passed (ltb (length xs / 2) (line .0)) (Line
 
 -- ---- and a block that must be taken
 
-all-quiet : (low high : ℤ) (xs : List ℤ) → ((i : ℕ) → low ≼ cell xs i) → ((i : ℕ) → cell xs i ≼ high) → firstLoud low high xs ≡ length xs
+pub all-quiet : (low high : ℤ) (xs : List ℤ) → ((i : ℕ) → low ≼ cell xs i) → ((i : ℕ) → cell xs i ≼ high) → firstLoud low high xs ≡ length xs
 unfolding firstLoud
 all-quiet low high [] h k = refl
 all-quiet low high (x ∷ xs) h k = rw (at-most-test x low (h 0), at-most-test high x (k 0)) (ap suc (all-quiet low high xs (λ i. h (suc i)) (λ i. k (suc i))))
