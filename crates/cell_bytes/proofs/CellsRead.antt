@@ -33,6 +33,9 @@ pub no-cells : (bytes : List ℕ) → (length bytes % CELL ≡ 0 → ⊥) → ce
 unfolding cellsIn
 no-cells bytes h = rw (ne-eqb (length bytes % CELL) 0 h) refl
 
+pub count-whole : (bytes : List ℕ) → length bytes % CELL ≡ 0 → length (cellsIn bytes) ≡ length bytes / CELL
+count-whole bytes e = ap length (whole-cells bytes e) ∙ length-signeds CELL (length bytes / CELL) bytes
+
 -- ---- one cell, where its bytes stand
 
 module _ (bytes : List ℕ) where
@@ -55,7 +58,7 @@ module _ (bytes : List ℕ) where
         go false e = absurd (omega (arith, ap length (no-cells bytes (eqb-false (length bytes % CELL) 0 e))))
 
     counted : i < length bytes / CELL
-    counted = omega (arith, ap length (whole-cells bytes whole), length-signeds CELL (length bytes / CELL) bytes)
+    counted = omega (arith, count-whole bytes whole)
 
     pub cell-room : CELL * i + CELL ≤ length bytes
     cell-room = omega (arith, counted)
@@ -71,14 +74,11 @@ module _ (wanted : ℕ) (some : 1 ≤ wanted) where
   unfolding fitCount
   fit-count bytes = go (eqb (length bytes) (CELL * wanted)) refl (eqb (length bytes % CELL) 0) refl
     where
-      spelt : length bytes % CELL ≡ 0 → length (cellsIn bytes) ≡ length bytes / CELL
-      spelt z = ap length (whole-cells bytes z) ∙ length-signeds CELL (length bytes / CELL) bytes
-
       go : (t : Bool) → eqb (length bytes) (CELL * wanted) ≡ t → (u : Bool) → eqb (length bytes % CELL) 0 ≡ u → eqb (cond t wanted 0) wanted ≡ eqb (length (cellsIn bytes)) wanted
       go true et u eu = let h = eqb-true (length bytes) (CELL * wanted) et in
-          eq-eqb wanted wanted refl ∙ sym (eq-eqb (length (cellsIn bytes)) wanted (spelt (omega arith) ∙ omega arith))
+          eq-eqb wanted wanted refl ∙ sym (eq-eqb (length (cellsIn bytes)) wanted (count-whole bytes (omega arith) ∙ omega arith))
       go false et true eu = let h = eqb-false (length bytes) (CELL * wanted) et in let z = eqb-true (length bytes % CELL) 0 eu in
-          ne-eqb 0 wanted (λ e. omega arith) ∙ sym (ne-eqb (length (cellsIn bytes)) wanted (λ e. h (omega (arith, spelt z))))
+          ne-eqb 0 wanted (λ e. omega arith) ∙ sym (ne-eqb (length (cellsIn bytes)) wanted (λ e. h (omega (arith, count-whole bytes z))))
       go false et false eu = let z = no-cells bytes (eqb-false (length bytes % CELL) 0 eu) in
           ne-eqb 0 wanted (λ e. omega arith) ∙ sym (ne-eqb (length (cellsIn bytes)) wanted (λ e. omega (arith, ap length z)))
 
