@@ -1,8 +1,8 @@
-// Entries for hosts in C: the engine and the trace reader on byte slices, each with one plain number for an answer (document 01, Parts of the engine).
+// Entries for hosts in C: the engine, the trace reader and saving on byte slices, each with one plain number for an answer (document 01, Parts of the engine).
 use kind::Line;
 ghost use mathlib.Core.Path.{_≡_};
 ghost use mathlib.Core.List.{[]};
-ghost use Prim.Native.Nat.{_/_, _%_, _^_};
+ghost use Prim.Native.Nat.{_/_, _%_, _^_, _<_};
 ghost use lib.ListN.{length};
 ghost use Rattle.cell_bytes.specs.CellBytes.{cellsIn};
 ghost use Rattle.block.specs.Tests.{testedLine, testedSamples, testedSpectrum};
@@ -16,9 +16,11 @@ ghost use Rattle.scaled_bytes.specs.LineHeld.{imaginaryHeld, asLine, realHeld, 
 ghost use Rattle.search.specs.SearchAnswers.{nearestAnswer, nearestNumbers, strongestAnswer, strongestNumbers};
 ghost use Rattle.search_bytes.specs.Asked.{endAsked};
 ghost use Rattle.fetch_bytes.specs.Fetched.{fetchBytes, fetchedOf};
+ghost use Rattle.saving.specs.Save.{ReadsBack, asHead, saveAnswer, savingNumbers, traceLeft};
+ghost use Rattle.save_bytes.specs.SavedOf.{savingOf};
 ghost use Rattle.trace.specs.Contents.{contents};
 ghost use Rattle.trace.specs.TraceAnswers.{contentsNumbers, traceAnswer};
-ghost use Rattle.packing.specs.Packing.{blocksIn, caseIn, caseNumbers, foundIn, lineIn, numberIn, pIn, packed, packedScaled, packedSearch, packedTrace, placeIn, rateIn, unpackedBlock, unpackedFetch, unpackedScaled, unpackedSearch, unpackedTrace};
+ghost use Rattle.packing.specs.Packing.{blocksIn, caseIn, caseNumbers, foundIn, lineIn, numberIn, pIn, packed, packedSave, packedScaled, packedSearch, packedTrace, placeIn, rateIn, unpackedBlock, unpackedFetch, unpackedSave, unpackedScaled, unpackedSearch, unpackedTrace, usedIn};
 ghost use Rattle.host.specs.Version.{VERSION};
 
 // The forward spectrum of the block that the bytes spell, in its place.
@@ -120,6 +122,18 @@ pub extern "C" fn hartley_fetch(trace: &[u8], k: usize, cells: &mut [u8]) -> u64
     fetch_bytes::fetch(trace, k, cells)
 }
 
+// Saves a rate, P and the run of cells that the bytes spell as a trace in the lent bytes. A place of refusal 3 has room in an answer where fewer than 2^56
+// bytes of cells are lent, and no machine of this kind has so many.
+#[no_mangle]
+pub extern "C" fn hartley_save(rate: usize, p: usize, cells: &[u8], trace: &mut [u8]) -> u64
+    ensures answer { λ r. ⌜ r ≡ packedSave (saveAnswer (savingOf (asHead rate p) (now (cells .entry)) (length (now (trace .entry))))) ⌝ }
+    ensures numbers { λ r. ⌜ (length (now (cells .entry)) < 256 ^ 7 → unpackedSave r ≡ savingNumbers (savingOf (asHead rate p) (now (cells .entry)) (length (now (trace .entry))))) ⌝ }
+    ensures bytes { λ _. ⌜ now (trace .exit) ≡ traceLeft (now (trace .entry)) (savingOf (asHead rate p) (now (cells .entry)) (length (now (trace .entry)))) ⌝ }
+    ensures reads_back { λ _. ⌜ ReadsBack (asHead rate p) (cellsIn (now (cells .entry))) (saveAnswer (savingOf (asHead rate p) (now (cells .entry)) (length (now (trace .entry))))) (now (trace .exit)) ⌝ }
+{
+    packing::packed_save(save_bytes::save(rate, p, cells, trace))
+}
+
 // The refusal's number in an answer, or 0 where nothing is refused.
 #[no_mangle]
 pub extern "C" fn hartley_number(answer: u64) -> u64
@@ -184,12 +198,20 @@ pub extern "C" fn hartley_blocks(answer: u64) -> u64
     bytes_2_and_3(answer)
 }
 
+// The bytes that a saved trace takes, in the answer of a call that saves.
+#[no_mangle]
+pub extern "C" fn hartley_used(answer: u64) -> u64
+    ensures { λ r. ⌜ r ≡ usedIn answer ⌝ }
+{
+    answer / 256
+}
+
 // The version of this interface, for a host whose header may be of another day than its archive.
 #[no_mangle]
 pub extern "C" fn hartley_version() -> u64
     ensures { λ r. ⌜ r ≡ VERSION ⌝ }
 {
-    3
+    4
 }
 
 // Byte 1 of an answer.

@@ -34,7 +34,10 @@ use Rattle.trace.specs.TraceAnswers.{traceAnswerNumbers}
 use Rattle.search.specs.declared.SearchAnswer.{SearchAnswer}
 use Rattle.search.specs.declared.SearchAnswer.the-variants.{Found, None, Refused as SearchRefused}
 use Rattle.search.specs.SearchAnswers.{searchNumbers}
-use Rattle.packing.specs.Packing.{blocksIn, caseNumbers, caseOf, numberIn, packed, packedRefusal, packedScaled, packedSearch, packedTrace, pIn, placeFor, placeIn, rateIn, unlessRefused, unpackedBlock, unpackedFetch, unpackedScaled, unpackedSearch, unpackedTrace}
+use Rattle.saving.specs.declared.SaveAnswer.{SaveAnswer}
+use Rattle.saving.specs.declared.SaveAnswer.the-variants.{Saved, Refused as SaveRefused}
+use Rattle.saving.specs.Save.{saveAnswerNumbers}
+use Rattle.packing.specs.Packing.{blocksIn, caseNumbers, caseOf, numberIn, packed, packedRefusal, packedSave, packedScaled, packedSearch, packedTrace, pIn, placeFor, placeIn, rateIn, unlessRefused, unpackedBlock, unpackedFetch, unpackedSave, unpackedScaled, unpackedSearch, unpackedTrace}
 
 -- ---- a refusal
 
@@ -193,3 +196,20 @@ search-unpacked asked (Found line) tellable fits = let v = line .0 in let h = fi
     rw (small, eq-eqb (numberIn a) 0 done, after-1, one, after-2, small) refl
 search-unpacked asked None tellable fits = refl
 search-unpacked asked (SearchRefused refusal) tellable fits = told refusal _ _ (place-for asked refusal (tellable refusal refl))
+
+-- ---- a call that saves
+
+-- the bytes that are used, or the place, fit seven bytes
+abbrev pub SevenBytes : SaveAnswer → Type 0
+SevenBytes (Saved used) = used < 256 ^ 7
+SevenBytes (SaveRefused refusal) = place refusal < 256 ^ 7
+
+used-unpacked : (used : ℕ) → used < 256 ^ 7 → unpackedSave (256 * (used % 256 ^ 7)) ≡ used ∷ []
+unfolding unpackedSave
+used-unpacked used h = let same : used % 256 ^ 7 ≡ used = omega arith in let none : numberIn (256 * used) ≡ 0 = omega arith in let back : 256 * used / 256 ≡ used = omega arith in
+    rw (same, eq-eqb (numberIn (256 * used)) 0 none, back) refl
+
+pub save-unpacked : (answer : SaveAnswer) → SevenBytes answer → unpackedSave (packedSave answer) ≡ saveAnswerNumbers answer
+unfolding unpackedSave
+save-unpacked (Saved used) h = used-unpacked used h
+save-unpacked (SaveRefused refusal) h = told refusal _ _ (place-back refusal h)

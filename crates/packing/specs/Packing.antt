@@ -1,6 +1,7 @@
 -- What the plain number means that answers a host in C. In eight bytes, least byte first: a refusal is its number in one byte and the lower seven bytes of
 -- its place; an accepted trace is 0 in one byte, P in one, the number of blocks in two and the rate in four; a scaled line is 0 in one byte and its case in
--- the next; a line that a search finds is 0 in one byte, 1 in the next and the line in two; a search that finds none and a call on a block that is done are 0.
+-- the next; a line that a search finds is 0 in one byte, 1 in the next and the line in two; a saved trace is 0 in one byte and the bytes that it takes in seven; a
+-- search that finds none and a call on a block that is done are 0.
 use mathlib.Core.Bool.{cond, _||_}
 use mathlib.Core.List.{List, [], _∷_, _++_}
 use Prim.Native.Nat.{ℕ, _+_, _*_, _/_, _%_, _^_}
@@ -17,6 +18,8 @@ use Rattle.trace.specs.declared.TraceAnswer.{TraceAnswer}
 use Rattle.trace.specs.declared.TraceAnswer.the-variants.{Accepted, Refused as TraceRefused}
 use Rattle.search.specs.declared.SearchAnswer.{SearchAnswer}
 use Rattle.search.specs.declared.SearchAnswer.the-variants.{Found, None, Refused as SearchRefused}
+use Rattle.saving.specs.declared.SaveAnswer.{SaveAnswer}
+use Rattle.saving.specs.declared.SaveAnswer.the-variants.{Saved, Refused as SaveRefused}
 use Rattle.fourier.specs.declared.ScaledLine.{ScaledLine}
 use Rattle.fourier.specs.declared.ScaledLine.the-variants.{Mean, Last, Pair, Refused as LineRefused}
 
@@ -48,6 +51,10 @@ packedSearch (Found line) = 256 * (1 + 256 * (line .0 % 256 ^ 2))
 packedSearch None = 0
 packedSearch (SearchRefused refusal) = packedRefusal refusal
 
+abbrev pub packedSave : SaveAnswer → ℕ
+packedSave (Saved used) = 256 * (used % 256 ^ 7)
+packedSave (SaveRefused refusal) = packedRefusal refusal
+
 -- ---- and unpacked
 
 abbrev pub numberIn : ℕ → ℕ
@@ -73,6 +80,9 @@ foundIn answer = answer / 256 % 256
 
 abbrev pub lineIn : ℕ → ℕ
 lineIn answer = answer / 256 ^ 2 % 256 ^ 2
+
+abbrev pub usedIn : ℕ → ℕ
+usedIn answer = answer / 256
 
 -- The place of 4 and 16 is the line or the block that was asked for, which the host has itself.
 abbrev pub placeFor : ℕ → ℕ → ℕ
@@ -104,3 +114,7 @@ caseNumbers N v (BlockRefused refusal) = number refusal ∷ place refusal ∷ []
 -- of a search, where the line of a refusal 4 is the one asked for: the line that is found, nothing where there is none
 unfoldable pub unpackedSearch : ℕ → ℕ → List ℕ
 unpackedSearch asked answer = unlessRefused answer (placeFor asked answer) (cond (eqb (foundIn answer) 0) [] (lineIn answer ∷ []))
+
+-- of a call that saves: the bytes that are used
+unfoldable pub unpackedSave : ℕ → List ℕ
+unpackedSave answer = unlessRefused answer (placeIn answer) (usedIn answer ∷ [])

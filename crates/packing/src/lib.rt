@@ -3,11 +3,12 @@ use block::Answer;
 use fourier::ScaledLine;
 use record::Head;
 use refusal::Refusal;
+use saving::SaveAnswer;
 use search::SearchAnswer;
 use trace::TraceAnswer;
 ghost use mathlib.Core.Path.{_≡_};
 ghost use Rattle.trace.specs.declared.TraceAnswer.the-variants.{Accepted};
-ghost use Rattle.packing.specs.Packing.{packed, packedRefusal, packedScaled, packedSearch, packedTrace};
+ghost use Rattle.packing.specs.Packing.{packed, packedRefusal, packedSave, packedScaled, packedSearch, packedTrace};
 
 // The cases of a scaled line.
 const MEAN: u64 = 1;
@@ -56,6 +57,16 @@ pub fn packed_search(answer: SearchAnswer) -> u64
         SearchAnswer::Found(line) => 256 * (1 + 256 * (line.0 as u64 % 65536)),
         SearchAnswer::None => 0,
         SearchAnswer::Refused(refusal) => packed_refusal(refusal),
+    }
+}
+
+// The bytes that a saved trace takes, or the refusal. Of a number that does not fit seven bytes the upper one is left off.
+pub fn packed_save(answer: SaveAnswer) -> u64
+    ensures { λ r. ⌜ r ≡ packedSave answer ⌝ }
+{
+    match answer {
+        SaveAnswer::Saved(used) => 256 * (used as u64 % 72057594037927936),
+        SaveAnswer::Refused(refusal) => packed_refusal(refusal),
     }
 }
 

@@ -1,1 +1,2 @@
 pub mod WholeCells
+pub mod Told
