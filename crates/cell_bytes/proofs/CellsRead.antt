@@ -36,6 +36,14 @@ no-cells bytes h = rw (ne-eqb (length bytes % CELL) 0 h) refl
 pub count-whole : (bytes : List ℕ) → length bytes % CELL ≡ 0 → length (cellsIn bytes) ≡ length bytes / CELL
 count-whole bytes e = ap length (whole-cells bytes e) ∙ length-signeds CELL (length bytes / CELL) bytes
 
+-- there are bytes for all cells
+pub all-room : (bytes : List ℕ) → CELL * length (cellsIn bytes) ≤ length bytes
+all-room bytes = go (eqb (length bytes % CELL) 0) refl
+  where
+    go : (t : Bool) → eqb (length bytes % CELL) 0 ≡ t → CELL * length (cellsIn bytes) ≤ length bytes
+    go true e = omega (arith, count-whole bytes (eqb-true (length bytes % CELL) 0 e))
+    go false e = omega (arith, ap length (no-cells bytes (eqb-false (length bytes % CELL) 0 e)))
+
 -- ---- one cell, where its bytes stand
 
 module _ (bytes : List ℕ) where
@@ -110,6 +118,15 @@ module _ (bytes : List ℕ) (cells : List ℤ) where
   unfolding encoded
   encoded-none h = rw (ne-eqb (length bytes) (CELL * length cells) h) refl
 
+-- all cells, where there is room for just as many
+pub decoded-cells : (bytes : List ℕ) (room : List ℤ) → length room ≡ length (cellsIn bytes) → decoded bytes room ≡ cellsIn bytes
+unfolding signeds
+decoded-cells bytes room h = decoded-all bytes room (omega (arith, all-room bytes)) ∙ go (eqb (length bytes % CELL) 0) refl
+  where
+    go : (t : Bool) → eqb (length bytes % CELL) 0 ≡ t → signeds CELL (length room) bytes ≡ cellsIn bytes
+    go true e = let z = eqb-true (length bytes % CELL) 0 e in ap (λ (n : ℕ). signeds CELL n bytes) (h ∙ count-whole bytes z) ∙ sym (whole-cells bytes z)
+    go false e = let none = no-cells bytes (eqb-false (length bytes % CELL) 0 e) in ap (λ (n : ℕ). signeds CELL n bytes) (h ∙ ap length none) ∙ sym none
+
 -- ---- how many are read
 
 module _ (most : ℕ) (bytes : List ℕ) (n : ℕ) (e : n ≡ cellCount (CELL * most) (length bytes)) where
@@ -178,6 +195,35 @@ module _ (bytes : List ℕ) (cells : List ℤ) (k : ℕ) (e : k ≡ CELL * lengt
 
   pub front-decoded : signeds CELL (length cells) (take k bytes) ≡ decoded bytes cells
   front-decoded = front-signeds ∙ sym (decoded-all bytes cells (omega arith))
+
+-- ---- cells are read from a part of the bytes, which has those of n cells from cell `from` on
+
+module _ (bytes : List ℕ) (from n : ℕ) (inside : from + n ≤ length (cellsIn bytes)) where
+  part-room : CELL * from + CELL * n ≤ length bytes
+  part-room = omega (arith, all-room bytes)
+
+  abbrev part-bytes : List ℕ
+  part-bytes = take (CELL * n) (drop (CELL * from) bytes)
+
+  part-long : length part-bytes ≡ CELL * n
+  part-long = length-part 0 (CELL * from) (CELL * n) bytes part-room
+
+  part-count : length (cellsIn part-bytes) ≡ n
+  part-count = count-whole part-bytes (omega (arith, part-long)) ∙ omega (arith, part-long)
+
+  word-same : (i : ℕ) → i < n → take CELL (drop (CELL * i) part-bytes) ≡ take CELL (drop (CELL * (from + i)) bytes)
+  word-same i l = ext-getD 0 (take CELL (drop (CELL * i) part-bytes)) (take CELL (drop (CELL * (from + i)) bytes)) (long ∙ sym (length-part 0 (CELL * (from + i)) CELL bytes (omega (arith, part-room))))
+      (λ j g. let near : j < CELL = omega (arith, long) in
+      part-at 0 (CELL * i) CELL part-bytes j near ∙ part-at 0 (CELL * from) (CELL * n) bytes (CELL * i + j) (omega arith)
+      ∙ ap (λ (k : ℕ). getD bytes k 0) (omega arith) ∙ sym (part-at 0 (CELL * (from + i)) CELL bytes j near))
+    where
+      long : length (take CELL (drop (CELL * i) part-bytes)) ≡ CELL
+      long = length-part 0 (CELL * i) CELL part-bytes (omega (arith, part-long))
+
+  pub part-spelled : cellsIn part-bytes ≡ take n (drop from (cellsIn bytes))
+  part-spelled = ext-getD (pos 0) (cellsIn part-bytes) (take n (drop from (cellsIn bytes))) (part-count ∙ sym (length-part (pos 0) from n (cellsIn bytes) inside))
+      (λ i g. let near : i < n = omega (arith, part-count) in
+      sym (cell-spelled part-bytes i g) ∙ ap signed (word-same i near) ∙ cell-spelled bytes (from + i) (omega arith) ∙ sym (part-at (pos 0) from n (cellsIn bytes) i near))
 
 -- ---- bytes that were written spell the cells that they were written for
 
