@@ -606,8 +606,8 @@ static uint64_t same_answer(const struct contender *list, size_t before)
     return first;
 }
 
-/* The last columns of a row whose first two are printed. */
-static void time_search(struct contender *list)
+/* The last columns of a row of four contenders, whose first columns are printed. */
+static void time_four(struct contender *list)
 {
     measure(list, 4);
     print_times(list, 4, 1);
@@ -627,7 +627,7 @@ static void time_strongest(enum powers powers, size_t low, size_t high)
     for (size_t i = 0; i < LISTS; i++)
         same_answer(list, i);
     printf("| strongest, %zu to %zu | %s |", low, high, powers == RISING ? "rising" : "random");
-    time_search(list);
+    time_four(list);
 }
 
 static void time_nearest(size_t chosen, size_t distance)
@@ -646,7 +646,7 @@ static void time_nearest(size_t chosen, size_t distance)
         printf("| nearest to %zu | none |", chosen);
     else
         printf("| nearest to %zu | at distance %zu |", chosen, distance);
-    time_search(list);
+    time_four(list);
 }
 
 /* The strongest line of the whole list and of 17 lines; the nearest to the middle and to line 0. */
@@ -663,6 +663,81 @@ static void time_searches(void)
         time_nearest(MIDDLE, distances[i]);
     for (size_t i = 0; i < 4; i++)
         time_nearest(0, distances[i]);
+}
+
+/* Saving: all read the same cells and write to the same bytes, of which there are enough for any trace. */
+
+static int64_t run_cells[LONGEST / 2];
+static size_t run_p, run_count;
+
+static void archive_save(void)
+{
+    answer = hartley_save(48000, run_p, (const uint8_t *)run_cells, CELL * run_count, trace, LONGEST);
+}
+
+static void rule_c_save(void)
+{
+    answer = rule_save(48000, run_p, run_cells, run_count, trace, LONGEST);
+}
+
+static void plain_c_save(void)
+{
+    answer = rule_save_plain(48000, run_p, run_cells, run_count, trace, LONGEST);
+}
+
+/* A run of random samples, of so many blocks of 2^p. */
+static void set_run(size_t p, size_t blocks)
+{
+    run_p = p;
+    run_count = blocks << p;
+    for (size_t t = 0; t < run_count; t++)
+        run_cells[t] = (int64_t)noise() - 32768;
+}
+
+/* All contenders answer and write the same, and keep the bytes past the trace. */
+static void expect_same_trace(const struct contender *list)
+{
+    static uint8_t first_trace[LONGEST];
+    uint64_t first = 0;
+    for (int i = 0; i < 4; i++) {
+        memset(trace, 0xa5, LONGEST);
+        list[i].call();
+        if (i == 0) {
+            first = answer;
+            memcpy(first_trace, trace, LONGEST);
+        }
+        if (answer != first || answer % 256 != 0 || memcmp(trace, first_trace, LONGEST) != 0)
+            fail("the archive's save and the one in C differ");
+    }
+}
+
+static void time_save(size_t p, size_t blocks)
+{
+    struct contender list[4] = {
+        {.call = archive_save},
+        {.call = archive_save},
+        {.call = rule_c_save},
+        {.call = plain_c_save},
+    };
+    set_run(p, blocks);
+    expect_same_trace(list);
+    printf("| %zu | %zu | %zu | %d |", p, (size_t)1 << p, blocks, (int)(answer / 256));
+    time_four(list);
+}
+
+/* One block, 31, and the most that a trace has room for, which is 31 where P is 10. */
+static void time_saves(void)
+{
+    static const size_t ps[] = {1, 3, 6, 10};
+    printf("\nSave, ns per call (best / median); plain is one in C, cell by cell:\n");
+    print_head(" P | N | blocks | bytes | archive | C | plain | archive/C | archive/plain | A/A | spread | growth |");
+    for (size_t i = 0; i < 4; i++) {
+        const size_t most = (LONGEST - 18) / (6 + ((size_t)2 << ps[i]));
+        time_save(ps[i], 1);
+        time_save(ps[i], 31);
+        if (most > 31)
+            time_save(ps[i], most);
+    }
 }
 
 /* Listings */
@@ -772,7 +847,8 @@ int main(int count, char **words)
     time_checks();
     time_fetches();
     time_listings();
-    time_searches();    /* last, so that the random inputs of the others stay those of earlier runs */
+    time_searches();    /* these two last, so that the random inputs of the others stay those of earlier runs */
+    time_saves();
     printf("\nA/A, the same contender timed twice, was from %.2f to %.2f in this run.\n", lowest, highest);
     return 0;
 }

@@ -1,6 +1,7 @@
 /*
- * The level rule, the search of powers and the trace check in C, written from the project's papers and not from the
- * engine, which is measured against them. Answers are packed as in hartley.h, so that both can be compared.
+ * The level rule, the search of powers, the trace check and the saving of a trace in C, written from the project's
+ * papers and not from the engine, which is measured against them. Answers are packed as in hartley.h, so that both can
+ * be compared.
  */
 #ifndef RULE_H
 #define RULE_H
@@ -31,6 +32,11 @@ uint64_t rule_nearest_scan(const int64_t *powers, size_t lines, size_t chosen, i
 /* A fetch fills n cells with the samples of block k. */
 uint64_t rule_check(const uint8_t *trace, size_t bytes);
 uint64_t rule_fetch(const uint8_t *trace, size_t bytes, size_t k, int64_t *cells, size_t n);
+
+/* A save writes the trace of a run of cells, 2^p to a block, into so many lent bytes at most. It takes several cells at
+   a time. The plain one answers and writes the same, but cell by cell and byte by byte. */
+uint64_t rule_save(size_t rate, size_t p, const int64_t *cells, size_t count, uint8_t *trace, size_t bytes);
+uint64_t rule_save_plain(size_t rate, size_t p, const int64_t *cells, size_t count, uint8_t *trace, size_t bytes);
 
 /* An unsigned number of 2 and of 4 bytes, least byte first. */
 uint32_t rule_two(const uint8_t *at);

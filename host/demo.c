@@ -1,8 +1,8 @@
 /*
- * How a host in C uses the spectrum engine and the trace reader. Start with mean_frequency, the first use below, from
- * end to end; nearest_frequency is another. After them each entry is called on tables of cases; its answer, and the
- * cells and scaled lines of the blocks worked by hand, are shown and compared. Ends with "demo: ok", or with what went
- * wrong and exit status 1.
+ * How a host in C uses the spectrum engine, and reads and saves traces. Start with mean_frequency, the first use below,
+ * from end to end; nearest_frequency is another, and save_samples with fetch_samples a third. After them each entry is
+ * called on tables of cases; its answer, and the cells and scaled lines of the blocks worked by hand, are shown and
+ * compared. Saved traces are compared byte by byte. Ends with "demo: ok", or with what went wrong and exit status 1.
  */
 #include "hartley.h"
 
@@ -102,6 +102,35 @@ static double nearest_frequency(const uint8_t *trace, size_t trace_bytes, size_t
     return nearest;
 }
 
+/* Saves samples, 2^p to a block, and shows how many bytes the trace has. HARTLEY_LONGEST_TRACE bytes are lent for it,
+   which are never too few. Answers how many of them a host writes to its file, or 0 where the call refuses. */
+static size_t save_samples(size_t rate, size_t p, const int64_t *samples, size_t count, uint8_t *trace)
+{
+    const uint8_t *cells = (const uint8_t *)samples;
+    uint64_t answer = hartley_save(rate, p, cells, count * HARTLEY_CELL_BYTES, trace, HARTLEY_LONGEST_TRACE);
+    if (refused("save", answer))
+        return 0;
+    printf("%zu samples saved in %" PRIu64 " bytes\n", count, hartley_used(answer));
+    return hartley_used(answer);
+}
+
+/* Fetches the samples of all blocks of a trace, one block after another. There is room for HARTLEY_LONGEST_TRACE / 2 of
+   them, and no trace has more, since each takes two bytes. Answers what the call that refused has answered, or else
+   what the check has. */
+static uint64_t fetch_samples(const uint8_t *trace, size_t trace_bytes, int64_t *samples)
+{
+    uint64_t checked = hartley_check(trace, trace_bytes);
+    if (refused("check", checked))
+        return checked;
+    size_t n = (size_t)1 << hartley_p(checked), cells_bytes = n * HARTLEY_CELL_BYTES;
+    for (size_t k = 0; k < hartley_blocks(checked); k++) {
+        uint64_t fetched = hartley_fetch(trace, trace_bytes, k, (uint8_t *)(samples + k * n), cells_bytes);
+        if (refused("fetch", fetched))
+            return fetched;
+    }
+    return checked;
+}
+
 /* From here on: the tables of cases, and the functions that show them. */
 
 #define COUNT(rows) (sizeof(rows) / sizeof(rows)[0])
@@ -112,7 +141,7 @@ static double nearest_frequency(const uint8_t *trace, size_t trace_bytes, size_t
 /* Stands for the line where none is found. */
 #define NONE UINT64_MAX
 
-enum { CELL = HARTLEY_CELL_BYTES, LOUDEST = 1 << 28, TRACE = 32, THREE = 69 };
+enum { CELL = HARTLEY_CELL_BYTES, LOUDEST = 1 << 28, TRACE = 32, THREE = 69, LONGEST = HARTLEY_LONGEST_TRACE };
 enum entry { FORWARD, BACKWARD, PARTS, POWER };
 
 /* Blocks worked by hand: samples, spectrum, doubled parts, doubled powers, and of each scaled line the two doubles. */
@@ -318,6 +347,67 @@ static const struct fetched {
     {"fetch, block 0 of an empty trace", 0, 0, 4 * CELL, HARTLEY_CUT, 0, {0}},
 };
 
+/* Runs of such cells saved: the refusal and its place, or 0 and the bytes that the trace has. They are 18, and for each
+   block 6 more and two for each of its cells. */
+static const struct saved {
+    const char *what;
+    size_t rate, p, bytes, at;
+    int64_t cell;
+    size_t trace_bytes;
+    uint64_t number, place_or_used;
+} saves[] = {
+    {"save, a block of 4", 8000, 2, 4 * CELL, 0, 1, TRACE, 0, TRACE},
+    {"save, a block of 4 into 100 bytes", 8000, 2, 4 * CELL, 0, 1, 100, 0, TRACE},
+    {"save, 2 blocks of 4, cell 7 is -32768", 8000, 2, 8 * CELL, 7, -32768, 47, 0, 46},
+    {"save, 2 blocks of 4, cell 4 is 32767", 8000, 2, 8 * CELL, 4, 32767, 46, 0, 46},
+    {"save, no cells", 8000, 2, 0, 0, 1, 18, 0, 18},
+    {"save, no cells into 65537 bytes", 8000, 10, 0, 0, 1, LONGEST + 1, 0, 18},
+    {"save, rate 1, a block of 2", 1, 1, 2 * CELL, 0, -1, 28, 0, 28},
+    {"save, rate 2^32 - 1, a block of 1024", UINT32_MAX, 10, 1024 * CELL, 0, 1, LONGEST, 0, 2072},
+    {"save, 6551 blocks of 2", 8000, 1, 6551 * 2 * CELL, 0, 1, 65528, 0, 65528},
+    {"save, 31 blocks of 1024", 8000, 10, 31 * 1024 * CELL, 0, 1, LONGEST, 0, 63692},
+    {"save, rate 0", 0, 2, 4 * CELL, 0, 1, TRACE, HARTLEY_HEAD, 0},
+    {"save, rate 2^32", (size_t)UINT32_MAX + 1, 2, 4 * CELL, 0, 1, TRACE, HARTLEY_HEAD, 0},
+    {"save, rate 2^32 + 8000", (size_t)UINT32_MAX + 8001, 2, 4 * CELL, 0, 1, TRACE, HARTLEY_HEAD, 0},
+    {"save, rate 2^64 - 1", SIZE_MAX, 2, 4 * CELL, 0, 1, TRACE, HARTLEY_HEAD, 0},
+    {"save, P is 0", 8000, 0, 4 * CELL, 0, 1, LONGEST, HARTLEY_HEAD, 0},
+    {"save, P is 11", 8000, 11, 2048 * CELL, 0, 1, LONGEST, HARTLEY_HEAD, 0},
+    {"save, P is 11, no cells", 8000, 11, 0, 0, 1, LONGEST, HARTLEY_HEAD, 0},
+    {"save, P is 66", 8000, 66, 4 * CELL, 0, 1, LONGEST, HARTLEY_HEAD, 0},
+    {"save, P is 65538", 8000, 65538, 4 * CELL, 0, 1, LONGEST, HARTLEY_HEAD, 0},
+    {"save, P is 2^64 - 1", 8000, SIZE_MAX, 4 * CELL, 0, 1, LONGEST, HARTLEY_HEAD, 0},
+    {"save, 3 cells in blocks of 4", 8000, 2, 3 * CELL, 0, 1, LONGEST, HARTLEY_LENGTH, 0},
+    {"save, 6 cells in blocks of 4", 8000, 2, 6 * CELL, 0, 1, LONGEST, HARTLEY_LENGTH, 0},
+    {"save, 512 cells in blocks of 1024", 8000, 10, 512 * CELL, 0, 1, LONGEST, HARTLEY_LENGTH, 0},
+    {"save, a block of 4 and a byte", 8000, 2, 4 * CELL + 1, 0, 1, LONGEST, HARTLEY_LENGTH, 0},
+    {"save, a block of 4 less a byte", 8000, 2, 4 * CELL - 1, 0, 1, LONGEST, HARTLEY_LENGTH, 0},
+    {"save, a byte", 8000, 2, 1, 0, 1, LONGEST, HARTLEY_LENGTH, 0},
+    {"save, cell 3 is 32768", 8000, 2, 4 * CELL, 3, 32768, TRACE, HARTLEY_LOUD, 3},
+    {"save, cell 5 of 2 blocks is -32769", 8000, 2, 8 * CELL, 5, -32769, LONGEST, HARTLEY_LOUD, 5},
+    {"save, cell 0 is 65537", 8000, 2, 4 * CELL, 0, 65537, TRACE, HARTLEY_LOUD, 0},
+    {"save, cell 1 is 2^63 - 1", 8000, 2, 4 * CELL, 1, INT64_MAX, TRACE, HARTLEY_LOUD, 1},
+    {"save, cell 2 is -2^63", 8000, 2, 4 * CELL, 2, INT64_MIN, TRACE, HARTLEY_LOUD, 2},
+    {"save, cell 31743 of 31 blocks is 32768", 8000, 10, 31 * 1024 * CELL, 31743, 32768, LONGEST, HARTLEY_LOUD, 31743},
+    {"save, cells 9 and 32767 are too loud", 8000, 10, 32 * 1024 * CELL, 9, -32769, 2 * LONGEST, HARTLEY_LOUD, 9},
+    {"save, 6552 blocks of 2", 8000, 1, 6552 * 2 * CELL, 0, 1, 65538, HARTLEY_LONG, 0},
+    {"save, 32 blocks of 1024", 8000, 10, 32 * 1024 * CELL, 32767, 1, 65746, HARTLEY_LONG, 0},
+    {"save, a block of 4 into 31 bytes", 8000, 2, 4 * CELL, 0, 1, 31, HARTLEY_MISFIT, 0},
+    {"save, 6551 blocks of 2 into 65527 bytes", 8000, 1, 6551 * 2 * CELL, 0, 1, 65527, HARTLEY_MISFIT, 0},
+    {"save, no cells into 17 bytes", 8000, 2, 0, 0, 1, 17, HARTLEY_MISFIT, 0},
+    {"save, no cells into none", 8000, 2, 0, 0, 1, 0, HARTLEY_MISFIT, 0},
+    /* every two of the five faults at once: the one that is tested first decides */
+    {"save, rate 0, 3 cells in blocks of 4", 0, 2, 3 * CELL, 0, 1, LONGEST, HARTLEY_HEAD, 0},
+    {"save, rate 0, cell 2 is 32768", 0, 2, 4 * CELL, 2, 32768, LONGEST, HARTLEY_HEAD, 0},
+    {"save, rate 0, 6552 blocks of 2", 0, 1, 6552 * 2 * CELL, 0, 1, 2 * LONGEST, HARTLEY_HEAD, 0},
+    {"save, rate 0, into none", 0, 2, 4 * CELL, 0, 1, 0, HARTLEY_HEAD, 0},
+    {"save, 3 cells in blocks of 4, cell 2 is 32768", 8000, 2, 3 * CELL, 2, 32768, LONGEST, HARTLEY_LENGTH, 0},
+    {"save, 6552 blocks of 2 and a cell", 8000, 1, 6552 * 2 * CELL + CELL, 0, 1, 2 * LONGEST, HARTLEY_LENGTH, 0},
+    {"save, 3 cells in blocks of 4, into none", 8000, 2, 3 * CELL, 0, 1, 0, HARTLEY_LENGTH, 0},
+    {"save, cell 9999 of 6552 blocks is 32768", 8000, 1, 6552 * 2 * CELL, 9999, 32768, 2 * LONGEST, HARTLEY_LOUD, 9999},
+    {"save, cell 2 is 32768, into none", 8000, 2, 4 * CELL, 2, 32768, 0, HARTLEY_LOUD, 2},
+    {"save, 6552 blocks of 2 into 65536 bytes", 8000, 1, 6552 * 2 * CELL, 0, 1, LONGEST, HARTLEY_LONG, 0},
+};
+
 static _Noreturn void fail(const char *what)
 {
     fflush(stdout);
@@ -357,11 +447,18 @@ static void take_back(struct lent lent, int kept)
     free(lent.before);
 }
 
+/* Writes a number in so many bytes, least byte first. Answers where the next one goes. */
+static uint8_t *put(uint8_t *at, int bytes, uint64_t number)
+{
+    for (int i = 0; i < bytes; i++)
+        at[i] = (uint8_t)(number >> 8 * i & 0xff);
+    return at + bytes;
+}
+
 /* Writes a cell: eight bytes, two's complement, least byte first. */
 static void put_cell(uint8_t *at, int64_t cell)
 {
-    for (int i = 0; i < CELL; i++)
-        at[i] = (uint8_t)((uint64_t)cell >> 8 * i & 0xff);
+    put(at, CELL, (uint64_t)cell);
 }
 
 static int64_t get_cell(const uint8_t *at)
@@ -381,7 +478,8 @@ static uint8_t *new_block(size_t bytes, size_t place, int64_t cell)
     return list;
 }
 
-/* Shows an answer and compares it: the number of the refusal, or 0, and the refusal's place. */
+/* Shows an answer and compares it: the number of the refusal, or 0, and the refusal's place. Whatever the answer is,
+   hartley_used reads the same bytes of it as hartley_place. */
 static void expect(const char *what, uint64_t answer, uint64_t number, uint64_t place)
 {
     if (hartley_number(answer) == 0)
@@ -390,6 +488,8 @@ static void expect(const char *what, uint64_t answer, uint64_t number, uint64_t 
         printf("%s: refused %" PRIu64 " at %" PRIu64 "\n", what, hartley_number(answer), hartley_place(answer));
     if (hartley_number(answer) != number || (number != 0 && hartley_place(answer) != place))
         fail("another answer was expected");
+    if (hartley_used(answer) != hartley_place(answer))
+        fail("other bytes of an answer were expected");
 }
 
 /* Compares the answer of an accepted block, then shows the cells and compares them. */
@@ -618,6 +718,74 @@ static void show_fetch(const struct fetched *row)
     take_back(cells, row->number != 0);
 }
 
+/* Writes the trace that is to be saved of the cells: each record is its payload's length, its kind and the payload. */
+static void put_trace(uint8_t *at, const struct saved *row, const uint8_t *cells)
+{
+    const size_t n = (size_t)1 << row->p;
+    at = put(put(at, 4, 6), 2, 1);                          /* head */
+    at = put(put(at, 4, row->rate), 2, row->p);
+    for (size_t t = 0; t < row->bytes / CELL; t++) {
+        if (t % n == 0)
+            at = put(put(at, 4, 2 * n), 2, 2);              /* block */
+        at = put(at, 2, (uint64_t)get_cell(cells + CELL * t));
+    }
+    put(put(at, 4, 0), 2, 4);                               /* end */
+}
+
+/* Compares the lent bytes with the trace that was to be saved, and past its end with what they held before. Then reads
+   the trace back: its check, and its last block, if it has one. */
+static void expect_saved(const struct saved *row, const uint8_t *cells, struct lent trace)
+{
+    const size_t n = (size_t)1 << row->p, bytes = n * CELL, blocks = row->bytes / bytes, used = row->place_or_used;
+    put_trace(trace.before, row, cells);
+    if (memcmp(trace.list, trace.before, trace.bytes) != 0)
+        fail("another trace was expected, or other bytes past it");
+    expect_trace(hartley_check(trace.list, used), row->rate, row->p, blocks);
+    if (blocks == 0)
+        return;
+    uint8_t *fetched = new_list(bytes);
+    uint64_t answer = hartley_fetch(trace.list, used, blocks - 1, fetched, bytes);
+    if (hartley_number(answer) != 0 || memcmp(fetched, cells + bytes * (blocks - 1), bytes) != 0)
+        fail("other samples were expected");
+    free(fetched);
+}
+
+/* A trace saved, or refused: then the lent bytes are left as they were. The cells always are. */
+static void show_save(const struct saved *row)
+{
+    struct lent cells = lend(new_block(row->bytes, row->at, row->cell), row->bytes);
+    struct lent trace = lend(new_list(row->trace_bytes), row->trace_bytes);
+    uint64_t answer = hartley_save(row->rate, row->p, cells.list, cells.bytes, trace.list, trace.bytes);
+    expect(row->what, answer, row->number, row->place_or_used);
+    if (row->number == 0) {
+        printf("  bytes %" PRIu64 "\n", hartley_used(answer));
+        if (hartley_used(answer) != row->place_or_used)
+            fail("another number of bytes was expected");
+        expect_saved(row, cells.list, trace);
+    }
+    take_back(cells, 1);
+    take_back(trace, row->number != 0);
+}
+
+/* The use that saves, and reads back: of the samples of the whole trace, then of those fetched from another without
+   notes. Each gives the very bytes of its trace. Then of a run that is not a whole number of blocks. */
+static void show_saving(void)
+{
+    static const int64_t samples[] = {1, 2, 3, 4};
+    static uint8_t saved[LONGEST];
+    static int64_t fetched[LONGEST / 2];
+    if (save_samples(8000, 2, samples, 4, saved) != TRACE || memcmp(saved, whole, TRACE) != 0)
+        fail("another trace was expected");
+    expect_trace(fetch_samples(saved, TRACE, fetched), 8000, 2, 1);
+    if (memcmp(fetched, samples, sizeof samples) != 0)
+        fail("other samples were expected");
+    expect_trace(fetch_samples(biscuit, sizeof biscuit, fetched), 8000, 3, 2);
+    if (save_samples(8000, 3, fetched, 16, saved) != sizeof biscuit || memcmp(saved, biscuit, sizeof biscuit) != 0)
+        fail("another trace was expected");
+    if (save_samples(8000, 3, fetched, 15, saved) != 0)
+        fail("a refusal was expected");
+}
+
 /* The uses from end to end, of the trace and of the trace without its last byte; and of a power that no line has. */
 static void show_uses(void)
 {
@@ -637,6 +805,7 @@ int main(void)
 {
     static const uint8_t zeros[HARTLEY_LONGEST_TRACE + 1];
     show_uses();
+    show_saving();
     for (size_t i = 0; i < COUNT(worked); i++)
         show_worked(&worked[i]);
     for (size_t i = 0; i < COUNT(bounds); i++)
@@ -657,6 +826,8 @@ int main(void)
     expect("check, 65536 bytes of 0", check_of(zeros, HARTLEY_LONGEST_TRACE), HARTLEY_KIND, 0);
     for (size_t i = 0; i < COUNT(fetches); i++)
         show_fetch(&fetches[i]);
+    for (size_t i = 0; i < COUNT(saves); i++)
+        show_save(&saves[i]);
     printf("demo: ok\n");
     return 0;
 }

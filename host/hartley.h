@@ -1,5 +1,6 @@
 /*
- * The spectrum engine and the trace reader of the crispness bench, for hosts in C. demo.c begins with one whole use.
+ * The spectrum engine of the crispness bench, and the calls that read and save its traces, for hosts in C. demo.c
+ * begins with one whole use.
  *
  * Link with libhartley.a. It is for System V x86-64 in ELF, and needs nothing but the C library.
  *
@@ -13,7 +14,7 @@
  * refuses, all that is lent is as it was.
  *
  * Answers: each is one number, and hartley_number reads from it whether the call has refused. Test hartley_number and
- * not the answer: an accepted check, fetch or scaled line is not 0, nor is a line that was found.
+ * not the answer: an accepted check, fetch, save or scaled line is not 0, nor is a line that was found.
  *
  * Threads: calls are safe from several threads at once. Until a call has answered, no other thread touches what it is
  * lent to write, or writes what it is lent to read.
@@ -26,6 +27,8 @@
  * version 3 the refusals 17, 18 and 19 stand where 13, order, stood. 13 is no longer given, and its name is gone. A
  * host that asked for 13 asks for the three: where it used the name the compiler says so, where it wrote the number
  * only the version does. Which traces are accepted, all places and every other answer are as they were in version 2.
+ * Version 4 has one call more, hartley_save, and one that reads its answer, hartley_used; all of version 3 is as it
+ * was.
  */
 #ifndef HARTLEY_H
 #define HARTLEY_H
@@ -34,13 +37,13 @@
 #include <stdint.h>
 
 /* Counts one up with every new call, and every change to a signature, an answer or a refusal. */
-#define HARTLEY_VERSION 3
+#define HARTLEY_VERSION 4
 /* The bytes of a cell. */
 #define HARTLEY_CELL_BYTES 8
 /* The largest block, in cells. Parts and powers have HARTLEY_LARGEST_BLOCK / 2 + 1 at most. */
 #define HARTLEY_LARGEST_BLOCK 1024
 /* The longest trace, in bytes. A host that reads a file makes room for one byte more, so that a longer file is refused
-   (10) and not cut short. */
+   (10) and not cut short. A host that saves a trace lends so many bytes, and they are never too few (2). */
 #define HARTLEY_LONGEST_TRACE 65536
 /* The stack that a call takes at most, in bytes, with what the C library takes for it. */
 #define HARTLEY_STACK_BYTES 32768
@@ -52,25 +55,28 @@ extern "C" {
 /*
  * Refused input. Block calls, and the searches strongest and nearest, test 1, 2, 3 and 4 in turn. A trace is tested for
  * 10; then each record for 11 (six bytes), 12, 17, 18, 14, 11 (payload), 15; the first fault found decides. A byte
- * after the end, 19, is looked for last, once the end's own length has passed 14. A fetch then tests 16, then 2.
- * docs/TRACES.md, for makers of recorders, explains each refusal of a trace by an example.
+ * after the end, 19, is looked for last, once the end's own length has passed 14. A fetch then tests 16, then 2. A save
+ * tests 15, 1, 3, 10 and 2 in turn. docs/TRACES.md, for makers of recorders, explains each refusal of a trace by an
+ * example.
  */
 enum hartley_refusal {
     HARTLEY_OK = 0,      /* nothing is refused */
     HARTLEY_LENGTH = 1,  /* block is not 2 to 1,024 cells and a power of two, or a list that is searched is not N/2 + 1
-                            cells for such an N, or its count of bytes is no multiple of eight; place 0 */
-    HARTLEY_MISFIT = 2,  /* a lent output not N cells (fetch) or N/2 + 1 (parts, power), or its count of bytes is no
-                            multiple of eight; place 0 */
-    HARTLEY_LOUD = 3,    /* forward: a cell outside -32,768 to 32,767; any call that takes a spectrum: outside +-2^28;
-                            place the first such cell */
+                            cells for such an N, or a run that is saved is not a whole number of blocks, or its count of
+                            bytes is no multiple of eight; place 0 */
+    HARTLEY_MISFIT = 2,  /* fetch: a lent output not N cells; parts, power: not N/2 + 1; all three: its count of bytes
+                            is no multiple of eight; save: fewer lent bytes than the trace has; place 0 */
+    HARTLEY_LOUD = 3,    /* forward, save: a cell outside -32,768 to 32,767; any call that takes a spectrum: outside
+                            +-2^28; place the first such cell */
     HARTLEY_LINE = 4,    /* a line above N/2: that of scaled, the chosen one of nearest, low of strongest, or else high;
                             place that line; then low of strongest above high; place low */
-    HARTLEY_LONG = 10,   /* trace above 65,536 bytes; place 0 */
+    HARTLEY_LONG = 10,   /* trace above 65,536 bytes, be it lent or to be saved; place 0 */
     HARTLEY_CUT = 11,    /* fewer than 6 bytes left before the end is read, or payload incomplete;
                             place the record's first byte */
     HARTLEY_KIND = 12,   /* kind not 1 to 4; same place */
     HARTLEY_SIZE = 14,   /* length wrong for the kind; same place */
-    HARTLEY_HEAD = 15,   /* rate 0 or P outside 1 to 10; same place */
+    HARTLEY_HEAD = 15,   /* rate 0 or P outside 1 to 10; same place; save: these, and rate above 4,294,967,295;
+                            place 0 */
     HARTLEY_ABSENT = 16, /* fetch of block k, k not below the count; place k */
     HARTLEY_HEADLESS = 17,    /* first record is not a head; place 0, its first byte */
     HARTLEY_SECOND_HEAD = 18, /* second head; place its first byte */
@@ -127,9 +133,18 @@ uint64_t hartley_check(const uint8_t *trace, size_t trace_bytes);
    refusal: 2, 10, 11, 12, 14, 15, 16, 17, 18 or 19. */
 uint64_t hartley_fetch(const uint8_t *trace, size_t trace_bytes, size_t k, uint8_t *cells, size_t cells_bytes);
 
+/* The trace of a run of cells, from the first lent byte on: one head, with the rate in samples a second and P; the
+   blocks; and the end. It has no notes. The run has the samples of one block of N = 2^P cells after another. It may
+   have no cells, and the trace then has no blocks. A trace of k blocks has 18 + k (6 + 2N) bytes, and lent bytes past
+   them keep their contents. The saved trace is accepted by hartley_check, and reads back as the same rate, P and
+   samples. For the other direction, any accepted trace without notes is, byte for byte, what saving its rate, P and
+   samples gives. Answers how many bytes the trace has, or a refusal, here in the order of the tests: 15, 1, 3, 10 or 2.
+   Where HARTLEY_LONGEST_TRACE bytes are lent, it is never 2. */
+uint64_t hartley_save(size_t rate, size_t p, const uint8_t *cells, size_t cells_bytes, uint8_t *trace,
+                      size_t trace_bytes);
+
 /*
- * Answers read. An answer has eight bytes, here with the least first. Each call below reads its own of them, whatever
- * answer it is given.
+ * Answers read. An answer has eight bytes, here with the least first.
  *
  *     the answer of                            byte 0    byte 1    bytes 2, 3    bytes 4 to 7
  *     forward, backward, parts, power, done    0         0         0             0
@@ -137,37 +152,38 @@ uint64_t hartley_fetch(const uint8_t *trace, size_t trace_bytes, size_t k, uint8
  *     strongest, nearest, a line found         0         1         line          0
  *     nearest, none found                      0         0         0             0
  *     check, fetch, done                       0         P         blocks        rate
+ *     save, done                               0         used, in seven bytes
  *     any call that refuses                    number    place, in seven bytes
+ *
+ * Each call below reads its own of these bytes, whatever answer it is given. Of an answer that it is not meant for, it
+ * reads what the table has there.
  */
 
 /* Of any answer, byte 0: HARTLEY_OK, or the number of the refusal. */
 uint64_t hartley_number(uint64_t answer);
 
-/* Of a refusal, bytes 1 to 7: its place, a cell of the block, a byte of the trace, or the line or block asked for. Of
-   the place of 4 and 16, which the host gave itself, the highest of eight bytes is left off where it is not 0. Every
-   other place is whole. Of an answer that refuses nothing this is no place: it is 0, or the case of a scaled line, or
-   1 and the line found in one number, or P, blocks and rate in one number. */
+/* Of a refusal, bytes 1 to 7: its place, a cell of the block or of the run, a byte of the trace, or the line or block
+   asked for. Of the place of 4 and 16, which the host gave itself, the highest of eight bytes is left off where it is
+   not 0. Every other place is whole. */
 uint64_t hartley_place(uint64_t answer);
 
-/* Of an accepted scaled line, byte 1: HARTLEY_MEAN, HARTLEY_LAST or HARTLEY_PAIR. Of a refusal this is the least byte
-   of its place, of an accepted trace P, of a line found 1, of any other call that is done 0. */
+/* Of an accepted scaled line, byte 1: HARTLEY_MEAN, HARTLEY_LAST or HARTLEY_PAIR. */
 uint64_t hartley_case(uint64_t answer);
 
 /* Of an accepted search, as strongest and nearest answer it: whether a line was found, byte 1, which is 1 if so and 0
    if not; and the line that was found, bytes 2 and 3. Where none was found hartley_line is 0, which is a line too: ask
-   hartley_found. The strongest line is always found. Of a refusal these are bytes of its place. Of an accepted trace
-   they are P and the number of blocks. Of any other call that is done they are 0, but hartley_found of a scaled line is
-   its case. */
+   hartley_found. The strongest line is always found. */
 uint64_t hartley_found(uint64_t answer);
 uint64_t hartley_line(uint64_t answer);
 
 /* Of an accepted trace, as check and fetch answer it: the rate in samples a second, bytes 4 to 7; P, byte 1, a block
-   having N = 2^P cells; and the number of blocks, bytes 2 and 3. Of a refusal these are bytes of its place. Of a line
-   found hartley_p is 1 and hartley_blocks is the line. Of any other call that is done they are 0, but hartley_p of a
-   scaled line is its case. */
+   having N = 2^P cells; and the number of blocks, bytes 2 and 3. */
 uint64_t hartley_rate(uint64_t answer);
 uint64_t hartley_p(uint64_t answer);
 uint64_t hartley_blocks(uint64_t answer);
+
+/* Of a trace that was saved, bytes 1 to 7: how many of the lent bytes it uses, from the first on. */
+uint64_t hartley_used(uint64_t answer);
 
 #ifdef __cplusplus
 }

@@ -22,18 +22,18 @@
 
 #define COUNT(rows) (sizeof(rows) / sizeof(rows)[0])
 
-enum { CELL = HARTLEY_CELL_BYTES, LARGEST = HARTLEY_LARGEST_BLOCK, LOUDEST = 1 << 28 };
+enum { CELL = HARTLEY_CELL_BYTES, LARGEST = HARTLEY_LARGEST_BLOCK, LONGEST = HARTLEY_LONGEST_TRACE, LOUDEST = 1 << 28 };
 enum { STACK = 4 * HARTLEY_STACK_BYTES, GUARD = 1 << 20, PAINT = 0xa5 };
 enum { THREADS = 4, ROUNDS = 200, BLOCKS_TRIED = 50 };
 
-/* Those up to FETCH can refuse. */
+/* Those up to SAVE can refuse. */
 enum entry {
-    FORWARD, BACKWARD, PARTS, POWER, SCALED, STRONGEST, NEAREST, CHECK, FETCH,
-    NUMBER, PLACE, CASE, FOUND, LINE, RATE, P, BLOCKS, VERSION
+    FORWARD, BACKWARD, PARTS, POWER, SCALED, STRONGEST, NEAREST, CHECK, FETCH, SAVE,
+    NUMBER, PLACE, CASE, FOUND, LINE, RATE, P, BLOCKS, USED, VERSION
 };
 static const char *const names[] = {
-    "forward", "backward", "parts", "power", "scaled", "strongest", "nearest", "check", "fetch",
-    "number", "place", "case", "found", "line", "rate", "p", "blocks", "version"
+    "forward", "backward", "parts", "power", "scaled", "strongest", "nearest", "check", "fetch", "save",
+    "number", "place", "case", "found", "line", "rate", "p", "blocks", "used", "version"
 };
 
 static struct trace { uint8_t *bytes; size_t count; uint64_t sum; } *traces;
@@ -61,17 +61,18 @@ static void read_trace(struct trace *trace, const char *name)
 static uint8_t *stack;                      /* its lowest byte; GUARD bytes below it that nobody may touch */
 static ucontext_t here, on_stack;
 static size_t most[COUNT(names)];           /* what each entry took at most */
-static int met[FETCH + 1][2];               /* whether each that can refuse has accepted, and has refused */
+static int met[SAVE + 1][2];                /* whether each that can refuse has accepted, and has refused */
 
 /* What the next call is lent: the cells or the trace, outputs of one size, the line, the band's ends or the block asked
-   for, and the level. */
+   for, the level, and the rate and P of a trace that is saved. */
 static struct {
     enum entry entry;
-    size_t cells_bytes, output_bytes, index, high;
+    size_t cells_bytes, output_bytes, index, high, rate, p;
     int64_t level;
     struct trace trace;
 } lent;
-static int64_t cells[2 * LARGEST], first[LARGEST], second[LARGEST];
+static int64_t cells[LONGEST / 2 + 1], first[LARGEST], second[LARGEST];
+static uint8_t saved[LONGEST];
 static double real, imaginary;
 static uint64_t answer;
 
@@ -98,6 +99,8 @@ static uint64_t called(void)
         return hartley_check(lent.trace.bytes, lent.trace.count);
     case FETCH:
         return hartley_fetch(lent.trace.bytes, lent.trace.count, lent.index, one, bytes);
+    case SAVE:
+        return hartley_save(lent.rate, lent.p, given, given_bytes, saved, bytes);
     case NUMBER:
         return hartley_number(answer);
     case PLACE:
@@ -114,6 +117,8 @@ static uint64_t called(void)
         return hartley_p(answer);
     case BLOCKS:
         return hartley_blocks(answer);
+    case USED:
+        return hartley_used(answer);
     default:
         return hartley_version();
     }
@@ -142,7 +147,7 @@ static void measure(enum entry entry)
         left++;
     if (STACK - left > most[entry])
         most[entry] = STACK - left;
-    if (entry <= FETCH)
+    if (entry <= SAVE)
         met[entry][hartley_number(answer) != HARTLEY_OK] = 1;
 }
 
@@ -229,6 +234,35 @@ static void measure_trace(const struct trace *trace)
         }
 }
 
+/* A run of so many bytes saved, of cells 1, 2, 3 and so on, but the last: with room for any trace, and with none. */
+static void measure_save(size_t rate, size_t bytes, int64_t last)
+{
+    lent.rate = rate;
+    lent.cells_bytes = bytes;
+    for (size_t t = 0; t < bytes / CELL; t++)
+        cells[t] = t + 1 < bytes / CELL ? (int64_t)t + 1 : last;
+    lent.output_bytes = LONGEST;
+    measure(SAVE);
+    lent.output_bytes = 0;
+    measure(SAVE);
+}
+
+/* Runs for every P, and for 0 and 11: of no block, of one, of the most that a trace has room for, and of one more;
+   accepted, too loud, with a byte more, and with rate 0. */
+static void measure_saves(void)
+{
+    for (lent.p = 0; lent.p <= 11; lent.p++) {
+        const size_t n = (size_t)1 << lent.p, most_blocks = (LONGEST - 18) / (6 + 2 * n);
+        const size_t blocks[] = {0, 1, most_blocks, most_blocks + 1};
+        for (size_t i = 0; i < COUNT(blocks); i++) {
+            measure_save(8000, blocks[i] * n * CELL, -32768);
+            measure_save(8000, blocks[i] * n * CELL, 32768);
+            measure_save(8000, blocks[i] * n * CELL + 1, 1);
+            measure_save(0, blocks[i] * n * CELL, 1);
+        }
+    }
+}
+
 static void measure_all(void)
 {
     uint8_t *room = mmap(NULL, GUARD + STACK, PROT_NONE, MAP_PRIVATE | MAP_ANONYMOUS, -1, 0);
@@ -239,9 +273,10 @@ static void measure_all(void)
     measure_lists();
     for (size_t i = 0; i < trace_count; i++)
         measure_trace(&traces[i]);
+    measure_saves();
     for (enum entry entry = NUMBER; entry <= VERSION; entry++)
         measure(entry);
-    for (enum entry entry = FORWARD; entry <= FETCH; entry++)
+    for (enum entry entry = FORWARD; entry <= SAVE; entry++)
         if (!met[entry][0] || !met[entry][1])
             fail("has not both accepted and refused", names[entry]);
     for (enum entry entry = FORWARD; entry <= VERSION; entry++)
@@ -262,17 +297,37 @@ static uint64_t with_cells(uint64_t sum, const int64_t *list, size_t count)
     return sum;
 }
 
-/* A sum over all that check, fetch, forward, power and the searches answer and leave, for some blocks of a trace. */
+static uint64_t with_bytes(uint64_t sum, const uint8_t *list, size_t count)
+{
+    for (size_t i = 0; i < count; i++)
+        sum = 31 * sum + list[i];
+    return sum;
+}
+
+/* The sum, and with it what saving a block as a trace of its own answers and leaves. */
+static uint64_t with_save(uint64_t sum, uint64_t checked, const int64_t *block, size_t n)
+{
+    const size_t rate = hartley_rate(checked), p = hartley_p(checked), bytes = 18 + 6 + 2 * n;
+    uint8_t own[18 + 6 + 2 * LARGEST];
+    memset(own, 0, bytes);
+    sum = 31 * sum + hartley_save(rate, p, (const uint8_t *)block, n * CELL, own, bytes);
+    return with_bytes(sum, own, bytes);
+}
+
+/* A sum over all that check, fetch, save, forward, power and the searches answer and leave, for some blocks of a
+   trace. */
 static uint64_t sum_of(const struct trace *trace)
 {
     int64_t block[LARGEST], powers[LARGEST / 2 + 1];
-    uint64_t sum = hartley_check(trace->bytes, trace->count);
-    if (hartley_number(sum) != HARTLEY_OK)
+    const uint64_t checked = hartley_check(trace->bytes, trace->count);
+    uint64_t sum = checked;
+    if (hartley_number(checked) != HARTLEY_OK)
         return sum;
-    size_t n = (size_t)1 << hartley_p(sum), lines = n / 2 + 1, blocks = hartley_blocks(sum);
+    size_t n = (size_t)1 << hartley_p(checked), lines = n / 2 + 1, blocks = hartley_blocks(checked);
     for (size_t k = 0; k < blocks; k += 1 + blocks / BLOCKS_TRIED) {
         sum = 31 * sum + hartley_fetch(trace->bytes, trace->count, k, (uint8_t *)block, n * CELL);
         sum = with_cells(sum, block, n);
+        sum = with_save(sum, checked, block, n);
         sum = 31 * sum + hartley_forward((uint8_t *)block, n * CELL);
         sum = with_cells(sum, block, n);
         sum = 31 * sum + hartley_power((uint8_t *)block, n * CELL, (uint8_t *)powers, lines * CELL);

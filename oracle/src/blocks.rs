@@ -20,6 +20,11 @@ fn test_loudness(cells: &[i64], least: i64, greatest: i64) -> Result<(), Refusal
     Ok(())
 }
 
+/// Refusal 3, "forward: a cell outside -32,768 to 32,767"; the same for saving (document 02, Item 4).
+pub fn test_samples(cells: &[i64]) -> Result<(), Refusal> {
+    test_loudness(cells, -32_768, 32_767)
+}
+
 /// Refusal 3, "any call that takes a spectrum: outside ±2^28"; the bounds themselves pass.
 pub fn test_spectrum(cells: &[i64]) -> Result<(), Refusal> {
     test_loudness(cells, -(1 << 28), 1 << 28)
@@ -28,7 +33,7 @@ pub fn test_spectrum(cells: &[i64]) -> Result<(), Refusal> {
 /// "The forward spectrum is the cells after level P, with no division by N".
 pub fn forward(cells: &[i64]) -> Result<Vec<i64>, Refusal> {
     test_length(cells.len())?;
-    test_loudness(cells, -32_768, 32_767)?;
+    test_samples(cells)?;
     Ok(after_levels(cells))
 }
 

@@ -3,6 +3,7 @@
 use crate::blocks::{backward, forward, test_length};
 use crate::fourier::{parts, power};
 use crate::refusal::{refuse_if, Refusal, LENGTH, MISFIT};
+use crate::saving::{save, test_head};
 use crate::scaled::{scaled, Scaled};
 use crate::search::{nearest, strongest};
 use crate::trace::{block, contents, test_block, Contents};
@@ -88,4 +89,13 @@ pub fn fetch_bytes(trace: &[u8], k: u64, lent: &mut [u8]) -> Result<Contents, Re
     let samples = block(&held, k, cells_lent(lent)?)?;
     replace(lent, samples);
     Ok(held)
+}
+
+/// Saving into bytes (document 02, Item 4), the cells being bytes as well: 15 is tested before their count. "The bytes
+/// used are answered, and lent bytes past them keep their contents."
+pub fn save_bytes(rate: u64, p: u64, cells: &[u8], lent: &mut [u8]) -> Result<u64, Refusal> {
+    test_head(rate, p)?;
+    let trace = save(rate, p, &cells_of(cells)?, lent.len())?;
+    lent[..trace.len()].copy_from_slice(&trace);
+    Ok(trace.len() as u64)
 }

@@ -8,18 +8,21 @@ mod cosines;
 mod fourier;
 mod listing;
 mod refusal;
+mod saving;
 mod scaled;
 mod search;
 mod trace;
 
 pub use blocks::{backward, direct, forward, halves, E};
 pub use cells::{
-    backward_bytes, fetch_bytes, forward_bytes, nearest_bytes, parts_bytes, power_bytes, scaled_bytes, strongest_bytes,
+    backward_bytes, fetch_bytes, forward_bytes, nearest_bytes, parts_bytes, power_bytes, save_bytes, scaled_bytes,
+    strongest_bytes,
 };
 pub use cosines::{fine_cosine, table_cosine};
 pub use fourier::{parts, power};
 pub use listing::listing;
 pub use refusal::Refusal;
+pub use saving::save;
 pub use scaled::{scaled, Fraction, Scaled};
 pub use search::{nearest, strongest};
 pub use trace::{contents, fetch, Contents};

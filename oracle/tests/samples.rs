@@ -753,3 +753,129 @@ fn fetches_into_bytes() {
     }
     assert_eq!((held.rate, held.p, held.blocks.len(), lent[16]), (9, 1, 3, 9));
 }
+
+/// Document 02, Item 4: "one head, the blocks and the end out, no notes".
+#[test]
+fn saved_traces() {
+    assert_eq!(save(8000, 2, &[1, 2, 3, 4], 32), Ok(SAMPLE_TRACE.to_vec()));
+    assert_eq!(save(8000, 2, &[1, 2, 3, 4], usize::MAX), Ok(SAMPLE_TRACE.to_vec()));
+    let empty = [6, 0, 0, 0, 1, 0, 1, 0, 0, 0, 10, 0, 0, 0, 0, 0, 4, 0];
+    assert_eq!(save(1, 10, &[], 18), Ok(empty.to_vec()));
+    let head = [6, 0, 0, 0, 1, 0, 0xFF, 0xFF, 0xFF, 0xFF, 1, 0];
+    let blocks = [[4, 0, 0, 0, 2, 0, 0, 0x80, 0xFF, 0x7F], [4, 0, 0, 0, 2, 0, 0xFF, 0xFF, 0, 1]];
+    let end = [0, 0, 0, 0, 4, 0];
+    let two_blocks = [&head[..], &blocks.concat(), &end].concat();
+    assert_eq!(save(4_294_967_295, 1, &[-32_768, 32_767, -1, 256], 38), Ok(two_blocks));
+    // a payload of 2,048 bytes: 0008 in hex, least byte first
+    let largest = save(8000, 10, &[-2; 1024], 65_536).unwrap();
+    assert_eq!((largest.len(), &largest[12..20]), (18 + 6 + 2048, &[0, 8, 0, 0, 2, 0, 0xFE, 0xFF][..]));
+}
+
+/// "A saved trace reads back as the same rate, P and samples. For the other direction, any accepted trace without notes
+/// is byte for byte what saving its contents would give."
+#[test]
+fn saved_and_read_back() {
+    for p in 1..=10 {
+        let given = Contents { rate: 1 << (3 * p), p, blocks: blocks(p) };
+        for count in 0..=given.blocks.len() {
+            let cells = given.blocks[..count].concat();
+            let trace = save(given.rate, p.into(), &cells, 65_536).unwrap();
+            let held = contents(&trace).unwrap();
+            assert_eq!((held.rate, held.p, &held.blocks[..]), (given.rate, p, &given.blocks[..count]));
+        }
+    }
+    let block = record(2, &[0, 0x80, 0xFF, 0x7F, 0xFF, 0xFF, 1, 0]);
+    for count in 0..5 {
+        let trace = after_head(&[block.repeat(count), record(4, &[])].concat());
+        let held = contents(&trace).unwrap();
+        assert_eq!(save(held.rate, held.p.into(), &held.blocks.concat(), trace.len()), Ok(trace));
+    }
+}
+
+/// The most blocks of each P, by hand: 65,518 bytes beside head and end, divided by 6 + 2N and rounded down. With them,
+/// and with one more.
+#[test]
+fn most_blocks() {
+    let most = [6551, 4679, 2978, 1724, 935, 488, 250, 126, 63, 31];
+    let bytes = [65_528, 65_524, 65_534, 65_530, 65_468, 65_410, 65_518, 65_286, 64_908, 63_692];
+    for (i, (most, bytes)) in most.into_iter().zip(bytes).enumerate() {
+        let (p, n) = (i as u64 + 1, 2 << i);
+        let trace = save(1, p, &vec![-1; most * n], bytes).unwrap();
+        assert_eq!((trace.len(), contents(&trace).unwrap().blocks.len()), (bytes, most));
+        assert_eq!(save(1, p, &vec![-1; most * n], bytes - 1), refused(2, 0));
+        assert_eq!(save(1, p, &vec![-1; (most + 1) * n], usize::MAX), refused(10, 0));
+    }
+}
+
+/// "15 (place 0)", before all others.
+#[test]
+fn heads_that_are_not_saved() {
+    let (over, most) = (1 << 32, u64::MAX);
+    for rate in [0, over, over + 1, over + 8000, 1 << 63, (1 << 63) + 8000, most] {
+        assert_eq!(save(rate, 2, &[1, 2, 3, 4], 32), refused(15, 0));
+        assert_eq!(save(rate, 2, &[1 << 40; 3], 0), refused(15, 0)); // 1, 3 and 2 hold as well
+        assert_eq!(save(rate, 1, &[7; 20_000], 0), refused(15, 0)); // 10 and 2
+        assert_eq!(save(rate, 0, &[], 18), refused(15, 0));
+    }
+    for p in [0, 11, 12, 63, 64, 65, 255, 256, 258, 65_538, over + 2, (1 << 63) + 2, most] {
+        assert_eq!(save(8000, p, &[], 18), refused(15, 0));
+        assert_eq!(save(8000, p, &[0; 2048], 65_536), refused(15, 0));
+        assert_eq!(save(8000, p, &[1 << 40; 3], 0), refused(15, 0));
+    }
+    assert_eq!(save(1, 1, &[], 18).map(|trace| trace.len()), Ok(18));
+    assert_eq!(save(over - 1, 10, &[], 18).map(|trace| trace.len()), Ok(18));
+}
+
+/// "1 (cells not a whole number of blocks; zero blocks is fine), 3, 10 (result above 65,536 bytes), 2 (lent bytes too
+/// few)", each before those after it.
+#[test]
+fn refused_runs() {
+    for count in [1, 2, 3, 5, 6, 7, 9, 4095, 65_537] {
+        assert_eq!(save(8000, 2, &vec![0; count], usize::MAX), refused(1, 0));
+        assert_eq!(save(8000, 2, &vec![i64::MAX; count], 0), refused(1, 0)); // 3 and 2 hold as well, at last 10
+    }
+    for loud in [-32_769, 32_768, 65_536, 65_541, -65_531, 1 << 32, i64::MIN, i64::MAX] {
+        for (place, count) in [(0, 4), (3, 4), (4, 8), (7, 8), (0, 80_000), (65_535, 80_000), (79_999, 80_000)] {
+            let mut cells = vec![-32_768; count];
+            (cells[place], cells[count - 1]) = (loud, loud);
+            assert_eq!(save(8000, 2, &cells, usize::MAX), refused(3, place as u64));
+            assert_eq!(save(8000, 2, &cells, 0), refused(3, place as u64)); // 2 and, where they are 80,000, 10
+        }
+    }
+    for lent in [0, 65_535, 65_536, 65_537, usize::MAX] {
+        assert_eq!(save(8000, 10, &[0; 32 * 1024], lent), refused(10, 0));
+    }
+    for lent in 0..40 {
+        assert_eq!(save(8000, 2, &[], lent).is_ok(), lent >= 18);
+        assert_eq!(save(8000, 2, &[32_767; 4], lent).is_ok(), lent >= 32);
+    }
+    assert_eq!(save(8000, 2, &[], 17), refused(2, 0));
+    assert_eq!(save(8000, 2, &[32_767; 4], 31), refused(2, 0));
+}
+
+/// "The bytes used are answered, and lent bytes past them keep their contents."
+#[test]
+fn saves_into_bytes() {
+    let cells = bytes_of(&[1, 2, 3, 4]);
+    for (count, fill) in [(32, 0), (33, 9), (40, 0xFF), (70_000, 9)] {
+        let mut lent = vec![fill; count];
+        assert_eq!(save_bytes(8000, 2, &cells, &mut lent), Ok(32));
+        assert_eq!(lent[..32], SAMPLE_TRACE);
+        assert_eq!(lent[32..], vec![fill; count - 32]);
+    }
+    let mut lent = vec![9; 40];
+    // a count of bytes that is no multiple of eight: 1, after 15 and before 3
+    let loud = bytes_of(&[1 << 40; 5]);
+    for count in (0..40).filter(|count| count % 32 != 0) {
+        assert_eq!(save_bytes(8000, 2, &loud[..count], &mut lent), refused(1, 0));
+        assert_eq!(save_bytes(0, 2, &loud[..count], &mut lent), refused(15, 0));
+        assert_eq!(save_bytes(8000, 11, &loud[..count], &mut lent), refused(15, 0));
+    }
+    assert_eq!(save_bytes(8000, 2, &loud[..32], &mut lent), refused(3, 0));
+    assert_eq!(save_bytes(8000, 2, &cells, &mut lent[..31]), refused(2, 0));
+    assert_eq!(save_bytes(8000, 2, &[], &mut lent[..17]), refused(2, 0));
+    assert_eq!(save_bytes(8000, 1, &vec![0; 16 * 6552], &mut lent), refused(10, 0));
+    assert_eq!(lent, [9; 40]);
+    assert_eq!(save_bytes(8000, 2, &[], &mut lent[..18]), Ok(18));
+    assert_eq!(lent[18..], [9; 22]);
+}

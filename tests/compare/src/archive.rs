@@ -25,6 +25,14 @@ extern "C" {
     fn hartley_nearest(powers: *const u8, powers_bytes: usize, chosen: usize, level: i64) -> u64;
     fn hartley_check(trace: *const u8, trace_bytes: usize) -> u64;
     fn hartley_fetch(trace: *const u8, trace_bytes: usize, k: usize, cells: *mut u8, cells_bytes: usize) -> u64;
+    fn hartley_save(
+        rate: usize,
+        p: usize,
+        cells: *const u8,
+        cells_bytes: usize,
+        trace: *mut u8,
+        trace_bytes: usize,
+    ) -> u64;
     fn hartley_number(answer: u64) -> u64;
     fn hartley_place(answer: u64) -> u64;
     fn hartley_case(answer: u64) -> u64;
@@ -33,6 +41,7 @@ extern "C" {
     fn hartley_rate(answer: u64) -> u64;
     fn hartley_p(answer: u64) -> u64;
     fn hartley_blocks(answer: u64) -> u64;
+    fn hartley_used(answer: u64) -> u64;
 }
 
 /// The bytes on either side of what is lent.
@@ -131,9 +140,15 @@ pub fn fetch(trace: &mut Lent, k: u64, cells: &mut Lent) -> u64 {
     unsafe { hartley_fetch(trace.pointer(), trace.count, k as usize, cells.pointer(), cells.count) }
 }
 
-/// What the unpacking calls say of any answer: number, place and case.
-pub fn unpacked(a: u64) -> [u64; 3] {
-    unsafe { [hartley_number(a), hartley_place(a), hartley_case(a)] }
+/// The cells, too, are lent as if they could be written.
+pub fn save(rate: u64, p: u64, cells: &mut Lent, trace: &mut Lent) -> u64 {
+    let (given, bytes) = (cells.pointer(), cells.count);
+    unsafe { hartley_save(rate as usize, p as usize, given, bytes, trace.pointer(), trace.count) }
+}
+
+/// What the unpacking calls say of any answer: number, place, case and bytes used.
+pub fn unpacked(a: u64) -> [u64; 4] {
+    unsafe { [hartley_number(a), hartley_place(a), hartley_case(a), hartley_used(a)] }
 }
 
 /// What they say of the answer to a search: whether a line was found, and the line.

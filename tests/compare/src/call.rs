@@ -15,6 +15,7 @@ pub enum Call {
     Nearest,
     Check,
     Fetch,
+    Save,
     List,
 }
 
@@ -31,15 +32,15 @@ impl Call {
         }
     }
 
-    /// The least and the largest cell of a block that the call takes.
+    /// The least and the largest cell that the call takes.
     pub fn limits(self) -> (i64, i64) {
         match self {
-            Call::Forward => SAMPLES,
+            Call::Forward | Call::Save => SAMPLES,
             _ => LINES,
         }
     }
 
-    /// Whether a block has a cell outside the call's limits.
+    /// Whether one of the cells is outside the call's limits.
     pub fn is_loud(self, cells: &[i64]) -> bool {
         let (low, high) = self.limits();
         cells.iter().any(|&cell| cell < low || cell > high)

@@ -23,7 +23,7 @@ pub struct Comparison {
 }
 
 /// An answer, and what then stands in the bytes lent for the result.
-type Left = (u64, Vec<u8>);
+pub type Left = (u64, Vec<u8>);
 
 /// A call on a block by the archive.
 fn first_block(call: Call, cells: &mut Lent, outputs: &mut [Lent]) -> u64 {
@@ -213,7 +213,7 @@ impl Comparison {
         self.same_trace(&run, answer, &second);
         self.count_trace(Call::Check, sort, &second, trace);
         if let Err(refusal) = second {
-            self.tally.count_forms(&disorders::forms(trace, refusal));
+            self.tally.count_forms(Call::Check, &disorders::forms(trace, refusal));
         }
         answer
     }

@@ -74,7 +74,7 @@ fn of_second_head(trace: &[u8], place: usize) -> Vec<Form> {
 }
 
 /// The kinds of the records before a place, all of which have passed.
-fn kinds_before(trace: &[u8], place: usize) -> Vec<usize> {
+pub fn kinds_before(trace: &[u8], place: usize) -> Vec<usize> {
     let mut kinds = Vec::new();
     let mut at = 0;
     while at < place {

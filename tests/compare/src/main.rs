@@ -12,6 +12,9 @@ mod inputs;
 mod lines;
 mod random;
 mod report;
+mod save_cases;
+mod saves;
+mod saving;
 mod search;
 mod tally;
 mod traces;
@@ -42,8 +45,7 @@ fn main() {
         }
     };
     let mut c = Comparison::new(seed, list.to_string());
-    worked::samples(&mut c);
-    let worked = std::mem::take(&mut c.tally).inputs; // the others are to be complete without them
+    let worked = apart(&mut c, worked::samples);
     small_traces(&mut c);
     every_order(&mut c);
     for _ in 0..rounds {
@@ -62,9 +64,22 @@ fn main() {
         fetches::fetches(&mut c);
         traces(&mut c);
     }
+    // saving is last, and so leaves the random inputs of the others as they are without it
+    let worked = worked + apart(&mut c, worked::saves);
+    saves::worked_again(&mut c);
+    for _ in 0..rounds {
+        saves::saves(&mut c);
+    }
     c.tally.print();
     c.tally.must_be_complete();
     println!("\ncomparison: ok, {} inputs, {worked} of them worked samples", worked + c.tally.inputs);
+}
+
+/// Runs worked samples and gives their number. They are not in the tally: the others are to be complete without them.
+fn apart(c: &mut Comparison, samples: fn(&mut Comparison)) -> u64 {
+    let others = std::mem::take(&mut c.tally);
+    samples(c);
+    std::mem::replace(&mut c.tally, others).inputs
 }
 
 /// Accepted blocks: forward; backward, parts, power and a scaled line of what it left; the same of spectra. Forward and

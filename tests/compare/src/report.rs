@@ -14,7 +14,7 @@ pub struct Run<'a> {
     pub call: Call,
     pub sort: &'static str,
     pub input: &'a [u8],
-    pub asked: String, // the line, the band or the block that was asked for, if any
+    pub asked: String, // the line, the band or the block that was asked for, or rate and P, if any
     pub output: usize, // bytes, of all outputs
     pub answers: [String; 2],
 }
@@ -51,12 +51,14 @@ pub fn packed_trace(second: &Result<Contents, Refusal>) -> u64 {
 }
 
 impl Comparison {
-    /// An answer as a number, and what the unpacking calls say of it: the number of the refusal, and then its place. A
-    /// number that both programs give is one of the papers'; 13 is none any longer (document 02, Item 3).
+    /// An answer as a number, and what the unpacking calls say of it: the number of the refusal, and then its place; and
+    /// of any answer its seven upper bytes, which are the bytes used where a trace was saved. A number that both
+    /// programs give is one of the papers'; 13 is none any longer (document 02, Item 3).
     pub fn same_answer(&self, run: &Run, answer: u64, second: u64) {
-        let [number, place, _] = archive::unpacked(answer);
+        let [number, place, _, used] = archive::unpacked(answer);
         self.same(run, "answer", answer, second);
         self.same(run, "hartley_number", number, second % 256);
+        self.same(run, "hartley_used", used, second / 256);
         if second % 256 != 0 {
             self.same(run, "hartley_place", place, second / 256);
         }

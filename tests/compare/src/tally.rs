@@ -3,13 +3,14 @@
 use crate::call::Call;
 use crate::cases::Case;
 use crate::disorders::Form;
+use crate::traces::most_blocks;
 use oracle::Scaled;
 use std::collections::{BTreeMap, BTreeSet};
 use std::process::exit;
 
 /// Every call, with the numbers of its refusals: those that are given at every P, 0 being the accepted inputs, and
 /// those of blocks and traces that have no P.
-const ANSWERS: [(Call, &[usize], &[usize]); 10] = [
+const ANSWERS: [(Call, &[usize], &[usize]); 11] = [
     (Call::Forward, &[0, 3], &[1]),
     (Call::Backward, &[0, 3], &[1]),
     (Call::Parts, &[0, 2, 3], &[1]),
@@ -19,6 +20,7 @@ const ANSWERS: [(Call, &[usize], &[usize]); 10] = [
     (Call::Nearest, &[0, 4], &[1]),
     (Call::Check, &[0], &[10, 11, 12, 14, 15, 17, 18, 19]),
     (Call::Fetch, &[0, 2, 16], &[10, 11, 12, 14, 15, 17, 18, 19]),
+    (Call::Save, &[0, 1, 2, 3, 10, 15], &[]),
     (Call::List, &[0], &[10, 11, 12, 14, 15, 17, 18, 19]),
 ];
 
@@ -29,7 +31,7 @@ pub fn in_the_papers(call: Call, number: u64) -> bool {
 }
 
 /// Faults that an input can have together, in the order of their tests: the first decides.
-const TOGETHER: [(Call, [u64; 2]); 12] = [
+const TOGETHER: [(Call, [u64; 2]); 22] = [
     (Call::Forward, [1, 3]),
     (Call::Backward, [1, 3]),
     (Call::Parts, [1, 3]),
@@ -42,9 +44,30 @@ const TOGETHER: [(Call, [u64; 2]); 12] = [
     (Call::Strongest, [1, 4]),
     (Call::Nearest, [1, 4]),
     (Call::Fetch, [16, 2]),
+    (Call::Save, [15, 1]),
+    (Call::Save, [15, 3]),
+    (Call::Save, [15, 10]),
+    (Call::Save, [15, 2]),
+    (Call::Save, [1, 3]),
+    (Call::Save, [1, 10]),
+    (Call::Save, [1, 2]),
+    (Call::Save, [3, 10]),
+    (Call::Save, [3, 2]),
+    (Call::Save, [10, 2]),
 ];
 
 const NUMBERS: [usize; 13] = [1, 2, 3, 4, 10, 11, 12, 14, 15, 16, 17, 18, 19];
+
+/// The sizes of a trace by its number of blocks.
+const SIZES: [&str; 4] = ["no block", "one block", "several", "the most"];
+
+/// Which of the sizes a trace of this P has.
+fn size(p: u64, blocks: usize) -> usize {
+    if blocks == most_blocks(p) {
+        return 3;
+    }
+    blocks.min(2)
+}
 
 /// Inputs of a call and a sort: how many were accepted, refused by 1, by 2 and so on.
 type Rows = BTreeMap<(Call, &'static str), [u64; 20]>;
@@ -81,10 +104,13 @@ pub struct Tally {
     /// For each P the scaled lines, and the fetched blocks: 0, 1 and above.
     lines: [Lines; 11],
     fetched: [[u64; 3]; 11],
-    /// The cases of the searches, with the least P of each: how often it was seen at each P.
+    /// For each P the saved traces of which each block was read back, and the traces saved again, by their sizes.
+    read_back: [[u64; 4]; 11],
+    saved_again: [[u64; 4]; 11],
+    /// The cases of the searches and of saving, with the least P of each: how often it was seen at each P.
     cases: BTreeMap<(Call, &'static str, usize), [u64; 11]>,
-    /// The forms of the traces that check refused: how often each was seen.
-    forms: BTreeMap<&'static str, u64>,
+    /// The forms of the traces that check refused, and of the heads that save refused: how often each was seen.
+    forms: BTreeMap<(Call, &'static str), u64>,
     /// For each P the blocks measured, and the largest distance, times 2^60.
     pub measured: [u64; 11],
     pub farthest: [i128; 11],
@@ -137,17 +163,27 @@ impl Tally {
         self.fetched[p][k.min(2) as usize] += 1;
     }
 
-    /// Counts a search of this P, for each case whether it is one.
+    /// Counts a saved trace of which each block was read back.
+    pub fn count_read_back(&mut self, p: u64, blocks: usize) {
+        self.read_back[p as usize][size(p, blocks)] += 1;
+    }
+
+    /// Counts a trace that was saved again from what it holds.
+    pub fn count_again(&mut self, p: u64, blocks: usize) {
+        self.saved_again[p as usize][size(p, blocks)] += 1;
+    }
+
+    /// Counts a search or a saving of this P, for each case whether it is one.
     pub fn count_cases(&mut self, call: Call, p: usize, cases: &[Case]) {
         for &(case, least, shown) in cases {
             self.cases.entry((call, case, least)).or_default()[p] += u64::from(shown);
         }
     }
 
-    /// Counts a refused trace, for each form whether it has it.
-    pub fn count_forms(&mut self, forms: &[Form]) {
+    /// Counts a refused input, for each form whether it has it.
+    pub fn count_forms(&mut self, call: Call, forms: &[Form]) {
         for &(form, shown) in forms {
-            *self.forms.entry(form).or_default() += u64::from(shown);
+            *self.forms.entry((call, form)).or_default() += u64::from(shown);
         }
     }
 
@@ -192,19 +228,30 @@ impl Tally {
         }
         println!("and {} blocks that forward takes without the negative", self.only_one_sign);
         self.print_each_p();
+        self.print_sizes();
         self.print_cases();
-        println!("\nforms of the traces that check refused");
-        for (form, count) in &self.forms {
-            println!("{form:50}{count:>7}");
+        println!("\nforms of what was refused");
+        for ((call, form), count) in &self.forms {
+            println!("{:56}{count:>7}", format!("{call:?}, {form}"));
+        }
+    }
+
+    fn print_sizes(&self) {
+        let heads = SIZES.map(|size| format!("{size:>11}")).concat();
+        println!("\n{:>2}   read back:{heads}   saved again:{heads}", "P");
+        for p in 1..=10 {
+            let [back, again] = [&self.read_back[p], &self.saved_again[p]];
+            let [back, again] = [back, again].map(|row| row.map(|count| format!("{count:>11}")).concat());
+            println!("{p:>2}{:13}{back}{:15}{again}", "", "");
         }
     }
 
     fn print_cases(&self) {
         let heads: String = (1..=10).map(|p| format!("{p:>7}")).collect();
-        println!("\n{:50}{heads}", "cases of the searches, at P");
+        println!("\n{:56}{heads}", "cases of the searches and of saving, at P");
         for ((call, case, _), counts) in &self.cases {
             let counts: String = counts[1..].iter().map(|count| format!("{count:>7}")).collect();
-            println!("{:50}{counts}", format!("{call:?}, {case}"));
+            println!("{:56}{counts}", format!("{call:?}, {case}"));
         }
     }
 
@@ -259,14 +306,15 @@ impl Tally {
         }
         for p in 1..=10 {
             lacking.extend(self.lacking_cases(p));
+            lacking.extend(self.lacking_sizes(p));
         }
         for ((call, case, least), counts) in &self.cases {
             for p in (*least..=10).filter(|&p| counts[p] == 0) {
                 lacking.push(format!("{call:?} has not shown, at P {p}: {case}"));
             }
         }
-        for (form, _) in self.forms.iter().filter(|(_, count)| **count == 0) {
-            lacking.push(format!("Check has not shown {form}"));
+        for ((call, form), _) in self.forms.iter().filter(|(_, count)| **count == 0) {
+            lacking.push(format!("{call:?} has not shown {form}"));
         }
         lacking
     }
@@ -302,6 +350,20 @@ impl Tally {
         for (what, count) in ["block 0", "block 1", "block above 1"].iter().zip(self.fetched[p]) {
             if count == 0 {
                 lacking.push(format!("Fetch has shown no {what} at P {p}"));
+            }
+        }
+        lacking
+    }
+
+    /// Saved traces of each size, read back whole, and traces of each size saved again.
+    fn lacking_sizes(&self, p: usize) -> Vec<String> {
+        let mut lacking = Vec::new();
+        for (size, name) in SIZES.iter().enumerate() {
+            if self.read_back[p][size] == 0 {
+                lacking.push(format!("Save has shown no trace read back whole at P {p}, blocks: {name}"));
+            }
+            if self.saved_again[p][size] == 0 {
+                lacking.push(format!("Save has shown no trace saved again at P {p}, blocks: {name}"));
             }
         }
         lacking

@@ -102,6 +102,16 @@ pub fn only_blocks(p: u16, blocks: usize, random: &mut Random) -> Vec<Record> {
     records
 }
 
+/// The bytes of such a trace: 12 of the head, 6 of each block and two of each sample, 6 of the end.
+pub fn bytes_of_blocks(p: u64, blocks: usize) -> usize {
+    18 + blocks * (6 + (2 << p))
+}
+
+/// The most blocks that a trace can have.
+pub fn most_blocks(p: u64) -> usize {
+    (LONGEST - 18) / (6 + (2 << p))
+}
+
 /// A trace of exactly so many bytes, more than 300, with no fault but perhaps that of being long.
 pub fn filled(count: usize, random: &mut Random) -> Vec<Record> {
     let p = random.between(1, 10) as u16;

@@ -6,6 +6,7 @@ use crate::compare::Comparison;
 use crate::double;
 use crate::inputs::{bytes_of, cells_of};
 use crate::report::{accepted, found, refused};
+use crate::saving::Given;
 use crate::traces::{bytes, end, head, record};
 
 const SORT: &str = "worked sample";
@@ -31,6 +32,52 @@ pub fn samples(c: &mut Comparison) {
     traces(c);
     disorders(c);
     fetches(c);
+}
+
+/// Saving (document 02, Item 4): "one head, the blocks and the end out, no notes".
+pub fn saves(c: &mut Comparison) {
+    save(c, [8000, 2], &[1, 2, 3, 4], &TRACE);
+    save(c, [8000, 2], &[], &[&TRACE[..12], &TRACE[26..]].concat());
+    let two = |low: [u8; 2], high: [u8; 2]| record(2, [low, high].concat());
+    let blocks = [two([1, 0], [2, 0]), two([0, 0x80], [0xFF, 0x7F]), two([0xFF, 0xFF], [0, 1])];
+    let three = bytes(&[&[head(u32::MAX, 1)][..], &blocks, &[end()]].concat());
+    save(c, [u32::MAX.into(), 1], &[1, 2, -32_768, 32_767, -1, 256], &three);
+    refused_saves(c);
+}
+
+/// "Checks: in this order 15 (place 0), 1 (cells not a whole number of blocks; zero blocks is fine), 3, 10 (result above
+/// 65,536 bytes), 2 (lent bytes too few)."
+fn refused_saves(c: &mut Comparison) {
+    let over = 1 << 32;
+    for (rate, p, cells, lent, answer) in [
+        (0, 2, &[1, 2, 3, 4][..], 32, 15),
+        (over, 2, &[1, 2, 3, 4], 32, 15),
+        (over + 8000, 2, &[1, 2, 3, 4], 32, 15),
+        (8000, 0, &[1], 32, 15),
+        (8000, 11, &[0; 2048], 65_536, 15),
+        (8000, over + 2, &[1, 2, 3, 4], 32, 15),
+        (0, 2, &[1 << 40; 3], 0, 15), // 15 before 1, 3 and 2
+        (8000, 2, &[1, 2, 3], 32, 1),
+        (8000, 2, &[1 << 40; 5], 0, 1), // 1 before 3 and 2
+        (8000, 2, &[0, 0, 0, 0, 0, 32_768, 0, 32_768], 99, refused(3, 5)),
+        (8000, 2, &[-32_769, 0, 0, 0], 0, refused(3, 0)), // 3 before 2
+        (8000, 1, &[65_536; 6552 * 2], 0, refused(3, 0)), // 3 before 10
+        (8000, 1, &[0; 6552 * 2], 70_000, 10),
+        (8000, 1, &[0; 6552 * 2], 0, 10), // 10 before 2
+        (8000, 10, &[0; 32 * 1024], 70_000, 10),
+        (8000, 1, &[0; 6551 * 2], 65_527, 2),
+        (8000, 1, &[0; 6551 * 2], 65_528, 256 * 65_528),
+        (8000, 10, &[0; 31 * 1024], 63_691, 2),
+        (8000, 10, &[0; 31 * 1024], 63_692, 256 * 63_692),
+        (8000, 2, &[1, 2, 3, 4], 31, 2),
+        (8000, 2, &[], 17, 2),
+        (8000, 2, &[], 18, 256 * 18),
+    ] {
+        let (given, lent) = (bytes_of(cells), c.random.bytes(lent));
+        let (its, left) = c.save(SORT, &Given { rate, p, cells: &given, trace: &lent });
+        assert_eq!(its, answer, "saving at rate {rate}, P {p}, of {} cells, into {} bytes", cells.len(), lent.len());
+        assert!(answer % 256 == 0 || left == lent, "saving at rate {rate}, P {p}, refused and yet written");
+    }
 }
 
 /// The second program's table and bounds, and how a double is held to a fraction.
@@ -284,4 +331,16 @@ fn fetch(c: &mut Comparison, trace: &[u8], k: u64, answer: u64, samples: &[i64])
     let (given, left) = c.fetch(SORT, trace, k, &cells);
     assert_eq!((given, cells_of(&left)), (answer, samples.to_vec()), "block {k} of {trace:02X?}");
     assert_eq!(oracle::fetch(trace, k, samples.len()), Ok(samples.to_vec()), "block {k} by the second program");
+}
+
+/// A saving with lent bytes just enough, and with some more, which are kept.
+fn save(c: &mut Comparison, [rate, p]: [u64; 2], cells: &[i64], trace: &[u8]) {
+    for more in [0, 1, 100] {
+        let lent = c.random.bytes(trace.len() + more);
+        let (answer, left) = c.save(SORT, &Given { rate, p, cells: &bytes_of(cells), trace: &lent });
+        let right = [trace, &lent[trace.len()..]].concat();
+        assert_eq!((answer, left), (256 * trace.len() as u64, right), "saving of {cells:?}");
+    }
+    let own = oracle::save(rate, p, cells, trace.len());
+    assert_eq!(own, Ok(trace.to_vec()), "saving of {cells:?} by the second program");
 }
