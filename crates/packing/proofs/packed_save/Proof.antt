@@ -1,5 +1,4 @@
 -- `packed_save` is right because each case is that of the definition.
-use borrow.Author.Needs.{needs}
 use mathlib.Core.Path.{sym, _∙_, ap}
 use native.Mathlib.Omega.{arith}
 use Rattle.packing.specs.Packing.{packedSave}
