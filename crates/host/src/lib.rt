@@ -2,7 +2,7 @@
 use kind::Line;
 ghost use mathlib.Core.Path.{_≡_};
 ghost use mathlib.Core.List.{[]};
-ghost use Prim.Native.Nat.{_/_, _%_, _^_, _<_};
+ghost use Prim.Native.Nat.{_*_, _/_, _%_, _^_, _<_};
 ghost use lib.ListN.{length};
 ghost use Rattle.cell_bytes.specs.CellBytes.{cellsIn};
 ghost use Rattle.block.specs.Tests.{testedLine, testedSamples, testedSpectrum};
@@ -122,12 +122,12 @@ pub extern "C" fn hartley_fetch(trace: &[u8], k: usize, cells: &mut [u8]) -> u64
     fetch_bytes::fetch(trace, k, cells)
 }
 
-// Saves a rate, P and the run of cells that the bytes spell as a trace in the lent bytes. A place of refusal 3 has room in an answer where fewer than 2^56
+// Saves a rate, P and the run of cells that the bytes spell as a trace in the lent bytes. A place of refusal 3 has room in an answer where fewer than 2^59
 // bytes of cells are lent, and no machine of this kind has so many.
 #[no_mangle]
 pub extern "C" fn hartley_save(rate: usize, p: usize, cells: &[u8], trace: &mut [u8]) -> u64
     ensures answer { λ r. ⌜ r ≡ packedSave (saveAnswer (savingOf (asHead rate p) (now (cells .entry)) (length (now (trace .entry))))) ⌝ }
-    ensures numbers { λ r. ⌜ (length (now (cells .entry)) < 256 ^ 7 → unpackedSave r ≡ savingNumbers (savingOf (asHead rate p) (now (cells .entry)) (length (now (trace .entry))))) ⌝ }
+    ensures numbers { λ r. ⌜ (length (now (cells .entry)) < 8 * 256 ^ 7 → unpackedSave r ≡ savingNumbers (savingOf (asHead rate p) (now (cells .entry)) (length (now (trace .entry))))) ⌝ }
     ensures bytes { λ _. ⌜ now (trace .exit) ≡ traceLeft (now (trace .entry)) (savingOf (asHead rate p) (now (cells .entry)) (length (now (trace .entry)))) ⌝ }
     ensures reads_back { λ _. ⌜ ReadsBack (asHead rate p) (cellsIn (now (cells .entry))) (saveAnswer (savingOf (asHead rate p) (now (cells .entry)) (length (now (trace .entry))))) (now (trace .exit)) ⌝ }
 {

@@ -1,1 +1,2 @@
 pub mod SavedOf
+pub mod Inner
