@@ -22,7 +22,7 @@ cellsIn bytes = cond (eqb (length bytes % CELL) 0) (signeds CELL (length bytes /
 abbrev pub cellAt : List ℕ → ℕ → ℤ
 cellAt bytes i = signed (take CELL (drop (CELL * i) bytes))
 
--- the number of cells that n bytes are read as: 0 where a byte is left over or there are more than `most` bytes, and no call takes 0 cells
+-- the number of cells that n bytes are read as: 0 where a byte is left over or there are more than `most` bytes, and no call on a block or a list takes 0 cells
 unfoldable pub cellCount : ℕ → ℕ → ℕ
 cellCount most n = cond (eqb (n % CELL) 0 && leb n most) (n / CELL) 0
 

@@ -12,7 +12,7 @@ pub const CELL: usize = 8;
 // The last byte of a cell, which is the most significant one.
 const LAST: usize = CELL - 1;
 
-// The number of cells that so many bytes are read as: 0, which no call takes, where a byte is left over or there are more than the most.
+// The number of cells that so many bytes are read as: 0, which no call on a block or a list takes, where a byte is left over or there are more than the most.
 pub fn cell_count(most: usize, bytes: usize) -> usize
     ensures { λ r. ⌜ (r ≡ cellCount most bytes) × (CELL * r ≤ most) ⌝ }
 {
@@ -25,7 +25,7 @@ pub fn cell_count(most: usize, bytes: usize) -> usize
     bytes / CELL
 }
 
-// The number of cells that so many bytes are read as where just `wanted` are asked for: these, or 0, which no call takes.
+// The number of cells that so many bytes are read as where just `wanted` are asked for: these, or 0, which is too few for any.
 pub fn fit_count(wanted: usize, bytes: usize) -> usize
     ensures { λ r. ⌜ (r ≡ fitCount wanted bytes) × (r ≤ wanted) ⌝ }
 {
