@@ -16,7 +16,7 @@ ghost use Rattle.scaled_bytes.specs.LineHeld.{imaginaryHeld, asLine, realHeld, 
 ghost use Rattle.search.specs.SearchAnswers.{nearestAnswer, nearestNumbers, strongestAnswer, strongestNumbers};
 ghost use Rattle.search_bytes.specs.Asked.{endAsked};
 ghost use Rattle.fetch_bytes.specs.Fetched.{fetchBytes, fetchedOf};
-ghost use Rattle.saving.specs.Save.{ReadsBack, asHead, saveAnswer, savingNumbers, traceLeft};
+ghost use Rattle.save_tests.specs.Save.{ReadsBack, asHead, saveAnswer, savingNumbers, traceLeft};
 ghost use Rattle.save_bytes.specs.SavedOf.{savingOf};
 ghost use Rattle.trace.specs.Contents.{contents};
 ghost use Rattle.trace.specs.TraceAnswers.{contentsNumbers, traceAnswer};

@@ -34,9 +34,9 @@ use Rattle.trace.specs.TraceAnswers.{traceAnswerNumbers}
 use Rattle.search.specs.declared.SearchAnswer.{SearchAnswer}
 use Rattle.search.specs.declared.SearchAnswer.the-variants.{Found, None, Refused as SearchRefused}
 use Rattle.search.specs.SearchAnswers.{searchNumbers}
-use Rattle.saving.specs.declared.SaveAnswer.{SaveAnswer}
-use Rattle.saving.specs.declared.SaveAnswer.the-variants.{Saved, Refused as SaveRefused}
-use Rattle.saving.specs.Save.{saveAnswerNumbers}
+use Rattle.save_tests.specs.declared.SaveAnswer.{SaveAnswer}
+use Rattle.save_tests.specs.declared.SaveAnswer.the-variants.{Saved, Refused as SaveRefused}
+use Rattle.save_tests.specs.Save.{saveAnswerNumbers}
 use Rattle.packing.specs.Packing.{blocksIn, caseNumbers, caseOf, numberIn, packed, packedRefusal, packedSave, packedScaled, packedSearch, packedTrace, pIn, placeFor, placeIn, rateIn, unlessRefused, unpackedBlock, unpackedFetch, unpackedSave, unpackedScaled, unpackedSearch, unpackedTrace}
 
 -- ---- a refusal

@@ -18,8 +18,8 @@ use Rattle.trace.specs.declared.TraceAnswer.{TraceAnswer}
 use Rattle.trace.specs.declared.TraceAnswer.the-variants.{Accepted, Refused as TraceRefused}
 use Rattle.search.specs.declared.SearchAnswer.{SearchAnswer}
 use Rattle.search.specs.declared.SearchAnswer.the-variants.{Found, None, Refused as SearchRefused}
-use Rattle.saving.specs.declared.SaveAnswer.{SaveAnswer}
-use Rattle.saving.specs.declared.SaveAnswer.the-variants.{Saved, Refused as SaveRefused}
+use Rattle.save_tests.specs.declared.SaveAnswer.{SaveAnswer}
+use Rattle.save_tests.specs.declared.SaveAnswer.the-variants.{Saved, Refused as SaveRefused}
 use Rattle.fourier.specs.declared.ScaledLine.{ScaledLine}
 use Rattle.fourier.specs.declared.ScaledLine.the-variants.{Mean, Last, Pair, Refused as LineRefused}
 

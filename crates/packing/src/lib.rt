@@ -3,7 +3,7 @@ use block::Answer;
 use fourier::ScaledLine;
 use record::Head;
 use refusal::Refusal;
-use saving::SaveAnswer;
+use save_tests::SaveAnswer;
 use search::SearchAnswer;
 use trace::TraceAnswer;
 ghost use mathlib.Core.Path.{_≡_};

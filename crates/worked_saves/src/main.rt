@@ -6,7 +6,7 @@ use printing::print_line_end;
 use printing::print_refusal;
 use printing::print_text;
 use printing::print_unsigned;
-use saving::SaveAnswer;
+use save_tests::SaveAnswer;
 use trace::TraceAnswer;
 ghost use mathlib.Core.Path.{_≡_};
 ghost use Prim.Native.Nat.{_≤_, _<_};

@@ -6,10 +6,10 @@ use Prim.Native.Nat.{ℕ, _≤_}
 use native.Mathlib.Omega.{arith}
 use lib.IntN.{ℤ}
 use Rattle.record.specs.declared.Head.{Head}
-use Rattle.saving.specs.declared.SaveAnswer.{SaveAnswer}
-use Rattle.saving.specs.declared.SaveAnswer.the-variants.{Saved}
-use Rattle.saving.specs.Save.{saving, saveAnswer}
-use Rattle.saving.proofs.SaveTests.{told-saved}
+use Rattle.save_tests.specs.declared.SaveAnswer.{SaveAnswer}
+use Rattle.save_tests.specs.declared.SaveAnswer.the-variants.{Saved}
+use Rattle.save_tests.specs.Save.{saving, saveAnswer}
+use Rattle.save_tests.proofs.SaveTests.{told-saved}
 use Rattle.worked_saves.proofs.answered.Statement.{statement}
 use Rattle.worked_saves.proofs.answered.Tie as tie
 
