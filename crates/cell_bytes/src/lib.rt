@@ -2,15 +2,13 @@
 ghost use mathlib.Core.Path.{_≡_};
 ghost use Prim.Native.Nat.{_+_, _*_, _≤_};
 ghost use lib.ListN.{length};
-ghost use Rattle.little_endian.specs.Reading.{signeds, unsigned};
-ghost use Rattle.little_endian.specs.Spelling.{spelled};
+ghost use Rattle.ints.specs.Written.{Put};
+ghost use Rattle.little_endian.specs.Reading.{signeds};
+ghost use Rattle.little_endian.specs.Spelling.{spelledSigned};
 ghost use Rattle.cell_bytes.specs.CellBytes.{CELL, cellAt, cellCount, decoded, encoded, fitCount};
 
 // The bytes of a cell.
 pub const CELL: usize = 8;
-
-// The last byte of a cell, which is the most significant one.
-const LAST: usize = CELL - 1;
 
 // The number of cells that so many bytes are read as: 0, which no call on a block or a list takes, where a byte is left over or there are more than the most.
 pub fn cell_count(most: usize, bytes: usize) -> usize
@@ -66,21 +64,7 @@ pub fn cell_at(bytes: &[u8], i: usize) -> i64
     ensures { λ r. ⌜ r ≡ cellAt (now (bytes .entry)) i ⌝ }
 {
     let at = CELL * i;
-    little_endian::signed_of_word(word(&bytes[at..at + CELL]))
-}
-
-// The number that the eight bytes of a cell spell, from the most significant one on.
-fn word(bytes: &[u8]) -> u64
-    requires { ⌜ length (now bytes) ≡ CELL ⌝ }
-    ensures { λ r. ⌜ r ≡ unsigned (now (bytes .entry)) ⌝ }
-{
-    let mut word = 0;
-    let mut i = 0;
-    while i < CELL {
-        word = 256 * word + bytes[LAST - i] as u64;
-        i += 1;
-    }
-    word
+    little_endian::signed_of_word(little_endian::unsigned_64(&bytes[at..at + CELL]))
 }
 
 // Writes cells as bytes. Where the bytes are not as many as the cells take, nothing is written.
@@ -92,25 +76,15 @@ pub fn encode(cells: &[i64], bytes: &mut [u8])
     }
     let mut i = 0;
     while i < cells.len() {
-        let at = CELL * i;
-        put_word(
-            little_endian::word_of_signed(cells[i]),
-            &mut bytes[at..at + CELL],
-        );
+        put_cell(cells[i], bytes, CELL * i);
         i += 1;
     }
 }
 
-// Writes a number as the eight bytes of a cell, the least significant one first.
-fn put_word(word: u64, bytes: &mut [u8])
-    requires { ⌜ length (now bytes) ≡ CELL ⌝ }
-    ensures { λ _. ⌜ now (bytes .exit) ≡ spelled CELL word ⌝ }
+// Puts a cell as its eight bytes at a place of the lent ones, and answers the place after them.
+pub fn put_cell(x: i64, bytes: &mut [u8], at: usize) -> usize
+    requires { ⌜ at + CELL ≤ length (now bytes) ⌝ }
+    ensures { λ r. ⌜ Put (spelledSigned CELL x) (now (bytes .entry)) at (now (bytes .exit)) r × (r ≡ at + CELL) ⌝ }
 {
-    let mut rest = word;
-    let mut i = 0;
-    while i < CELL {
-        bytes[i] = (rest % 256) as u8;
-        rest /= 256;
-        i += 1;
-    }
+    little_endian::put_64(little_endian::word_of_signed(x), bytes, at)
 }

@@ -1,13 +1,13 @@
 -- Lists written into a list one after another.
 -- Example: `written-more xs at ys zs h : written (written xs at ys) (at + length ys) zs ≡ written xs at (ys ++ zs)`, with h : at + length ys ≤ length xs.
 use mathlib.Core.Path.{_≡_, sym, _∙_, ap, ap₂}
-use mathlib.Core.List.{List, [], _∷_, _++_, append-assoc}
+use mathlib.Core.List.{List, [], _∷_, _++_, append-assoc, append-nil}
 use Prim.Native.Nat.{ℕ, _+_, _≤_, _<_}
 use native.Mathlib.Nat.{add-zero}
 use native.Mathlib.Numerals.{add-one}
 use native.Mathlib.Omega.{arith}
 use lib.ListN.{length, take, drop, set, length-append, length-take, length-drop, take-append-drop}
-use lib.Seq.{set-split, take-at, drop-at, take-append-le, take-take, length-take-le, drop-append-add, drop-drop}
+use lib.Seq.{set-split, take-at, drop-at, take-append-le, take-take, length-take-le, drop-append-add, drop-drop, drop-length}
 use Rattle.ints.specs.Written.{written}
 
 module _ {A : Type 0} where
@@ -20,6 +20,14 @@ module _ {A : Type 0} where
   pub written-one : (xs : List A) (at : ℕ) (y : A) → at < length xs → set xs at y ≡ written xs at (y ∷ [])
   unfolding written
   written-one xs at y h = set-split xs at y h ∙ ap (λ (k : ℕ). take at xs ++ (y ∷ drop k xs)) (sym (add-one at))
+
+  -- as many entries as there are
+  pub written-over : (xs ys : List A) → length ys ≡ length xs → written xs 0 ys ≡ ys
+  unfolding written
+  written-over xs ys e = ap (λ (k : ℕ). ys ++ drop k xs) all ∙ ap (λ (zs : List A). ys ++ zs) (drop-length xs) ∙ append-nil ys
+    where
+      all : 0 + length ys ≡ length xs
+      all = omega arith
 
   -- it reaches as far as what is written
   pub written-reaches : (xs : List A) (at : ℕ) (ys : List A) → at ≤ length xs → at + length ys ≤ length (written xs at ys)

@@ -28,20 +28,20 @@ module _ (bytes : List ℕ) (i start end : ℕ) (es : start ≡ 8 * i) (ee : end
 mul-at : tie.Need-mul-at
 mul-at c = omega arith
 
-add-word : tie.Need-add-word
-add-word c = omega arith
+add-unsigned-64 : tie.Need-add-unsigned-64
+add-unsigned-64 c = omega arith
 
-sub-word : tie.Need-sub-word
-sub-word c = omega arith
+sub-unsigned-64 : tie.Need-sub-unsigned-64
+sub-unsigned-64 c = omega arith
 
-part-word-start : tie.Need-part-word-start
-part-word-start c = omega arith
+part-unsigned-64-start : tie.Need-part-unsigned-64-start
+part-unsigned-64-start c = omega arith
 
-part-word-end : tie.Need-part-word-end
-part-word-end c = omega arith
+part-unsigned-64-end : tie.Need-part-unsigned-64-end
+part-unsigned-64-end c = omega arith
 
-word-requires : tie.Need-word-requires
-word-requires c κs = let i = c .before .before .args .i in eight _ (8 * i) (8 * i + 8) refl (omega arith)
+unsigned-64-requires : tie.Need-unsigned-64-requires
+unsigned-64-requires c κs = let i = c .before .before .args .i in eight _ (8 * i) (8 * i + 8) refl (omega arith)
 
 signed-of-word-requires : tie.Need-signed-of-word-requires
 signed-of-word-requires c κs = tt
@@ -49,7 +49,7 @@ signed-of-word-requires c κs = tt
 returns : tie.Need-returns
 returns c = let i = c .before .before .before .before .args .i in let r = c .signed-of-word .result in
     let back : toZ w64 (ofZ w64 r) ≡ r = toZ-ofZ (sfits-of (c .signed-of-word .ok)) in
-    back ∙ is-cell _ i (8 * i) (8 * i + 8) refl refl (omega arith) (c .before .word .result) r (c .before .word .ensures) (c .signed-of-word .ensures)
+    back ∙ is-cell _ i (8 * i) (8 * i + 8) refl refl (omega arith) (c .before .unsigned-64 .result) r (c .before .unsigned-64 .ensures) (c .signed-of-word .ensures)
 
 pub cell-at-spec : {M : Type 1} → statement M
-cell-at-spec = tie.close (tie.spec mul-at add-word sub-word part-word-start part-word-end word-requires signed-of-word-requires returns)
+cell-at-spec = tie.close (tie.spec mul-at add-unsigned-64 sub-unsigned-64 part-unsigned-64-start part-unsigned-64-end unsigned-64-requires signed-of-word-requires returns)
