@@ -9,11 +9,11 @@ use borrow.Author.Tests.{eq-eqb, ne-eqb, le-leb, lt-leb, eqb-true, eqb-false, le
 use lib.Dec.{eqb, leb}
 use lib.IntN.{ℤ, pos}
 use lib.ListN.{length, getD, take, drop}
-use lib.Seq.{ext-getD, getD-take, length-take-le}
+use lib.Seq.{ext-getD, length-take-le}
 use Rattle.ints.specs.Cells.{cell}
 use Rattle.ints.specs.Tabulate.{tabulate}
 use Rattle.ints.proofs.Filling.{filled-all}
-use Rattle.ints.proofs.Slices.{length-part, part-at}
+use Rattle.ints.proofs.Slices.{length-part, part-at, part-part}
 use Rattle.ints.proofs.Tables.{getD-tabulate, length-tabulate}
 use Rattle.little_endian.specs.Reading.{Within, signed, signeds}
 use Rattle.little_endian.specs.Spelling.{spelledSigneds}
@@ -169,12 +169,10 @@ eight bytes start end e h = length-part 0 start (end - start) bytes (omega arith
 
 module _ (bytes : List ℕ) (cells : List ℤ) (k : ℕ) (e : k ≡ CELL * length cells) (h : k ≤ length bytes) where
   front-word : (i : ℕ) → i < length cells → take CELL (drop (CELL * i) (take k bytes)) ≡ take CELL (drop (CELL * i) bytes)
-  front-word i l = ext-getD 0 (take CELL (drop (CELL * i) (take k bytes))) (take CELL (drop (CELL * i) bytes)) (long ∙ sym (length-part 0 (CELL * i) CELL bytes (omega arith)))
-      (λ j g. let g : j < CELL = omega (arith, long) in
-      part-at 0 (CELL * i) CELL (take k bytes) j g ∙ getD-take k bytes (CELL * i + j) 0 (omega arith) ∙ sym (part-at 0 (CELL * i) CELL bytes j g))
+  front-word i l = part-part 0 0 k (CELL * i) CELL bytes (omega arith) (omega arith) ∙ ap (λ (m : ℕ). take CELL (drop m bytes)) place
     where
-      long : length (take CELL (drop (CELL * i) (take k bytes))) ≡ CELL
-      long = length-part 0 (CELL * i) CELL (take k bytes) (omega (arith, length-take-le k bytes h))
+      place : 0 + CELL * i ≡ CELL * i
+      place = omega arith
 
   front-signeds : signeds CELL (length cells) (take k bytes) ≡ signeds CELL (length cells) bytes
   front-signeds = sym (signeds-tabulated CELL n (take k bytes))
@@ -212,13 +210,10 @@ module _ (bytes : List ℕ) (from n : ℕ) (inside : from + n ≤ length (cellsI
   part-count = count-whole part-bytes (omega (arith, part-long)) ∙ omega (arith, part-long)
 
   word-same : (i : ℕ) → i < n → take CELL (drop (CELL * i) part-bytes) ≡ take CELL (drop (CELL * (from + i)) bytes)
-  word-same i l = ext-getD 0 (take CELL (drop (CELL * i) part-bytes)) (take CELL (drop (CELL * (from + i)) bytes)) (long ∙ sym (length-part 0 (CELL * (from + i)) CELL bytes (omega (arith, part-room))))
-      (λ j g. let near : j < CELL = omega (arith, long) in
-      part-at 0 (CELL * i) CELL part-bytes j near ∙ part-at 0 (CELL * from) (CELL * n) bytes (CELL * i + j) (omega arith)
-      ∙ ap (λ (k : ℕ). getD bytes k 0) (omega arith) ∙ sym (part-at 0 (CELL * (from + i)) CELL bytes j near))
+  word-same i l = part-part 0 (CELL * from) (CELL * n) (CELL * i) CELL bytes (omega arith) part-room ∙ ap (λ (m : ℕ). take CELL (drop m bytes)) place
     where
-      long : length (take CELL (drop (CELL * i) part-bytes)) ≡ CELL
-      long = length-part 0 (CELL * i) CELL part-bytes (omega (arith, part-long))
+      place : CELL * from + CELL * i ≡ CELL * (from + i)
+      place = omega arith
 
   pub part-spelled : cellsIn part-bytes ≡ take n (drop from (cellsIn bytes))
   part-spelled = ext-getD (pos 0) (cellsIn part-bytes) (take n (drop from (cellsIn bytes))) (part-count ∙ sym (length-part (pos 0) from n (cellsIn bytes) inside))

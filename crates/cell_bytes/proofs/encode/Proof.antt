@@ -1,12 +1,9 @@
 -- `encode` is right because each round puts the eight bytes of one cell more after those of the cells before it.
 use borrow.Author.Needs.{needs, sfits-of}
 use mathlib.Core.Path.{_≡_, sym, _∙_, ap}
-use mathlib.Core.List.{List}
-use Prim.Native.Nat.{ℕ, _+_, _-_, _*_, _≤_, _<_}
+use Prim.Native.Nat.{_+_, _-_, _*_}
 use native.Mathlib.Omega.{arith}
-use lib.IntN.{ℤ}
 use lib.ListN.{length}
-use denote.Ref.{now}
 use mir.Facts.{toZ-ofZ}
 use Rattle.little_endian.specs.Spelling.{spelledSigned}
 use Rattle.little_endian.proofs.Numbers.{NumbersPut, numbers-begun, numbers-room, numbers-next, numbers-over, one-spelled}
