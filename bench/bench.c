@@ -474,13 +474,19 @@ static void rule_c_fetch(void)
     answer = rule_fetch(trace, trace_bytes, last_block, block_cells, block_length);
 }
 
+static void rule_c_fetch_words(void)
+{
+    answer = rule_fetch_words(trace, trace_bytes, last_block, block_cells, block_length);
+}
+
 static void time_fetches(void)
 {
     static const size_t ps[] = {1, 3, 6, 10};
     printf("\nFetch of the last block, ns per call (best / median):\n");
-    print_head(" blocks of P | bytes | records | blocks | archive | C | archive/C | A/A | spread | growth |");
+    print_head(" blocks of P | bytes | records | blocks | archive | C | by words | archive/C | archive/by words | A/A | spread | growth |");
     for (size_t i = 0; i < 8; i++) {
-        struct contender list[3] = {{.call = archive_fetch}, {.call = archive_fetch}, {.call = rule_c_fetch}};
+        struct contender list[4] = {{.call = archive_fetch}, {.call = archive_fetch}, {.call = rule_c_fetch},
+                                    {.call = rule_c_fetch_words}};
         size_t p = ps[i / 2], bytes = i % 2 == 0 ? 18 + 6 + ((size_t)2 << p) : LONGEST;
         make_trace(bytes, p);
         last_block = rule_check(trace, trace_bytes) / 65536 % 65536 - 1;
@@ -491,11 +497,15 @@ static void time_fetches(void)
         if (first != answer || answer % 256 != 0)
             fail("the archive's fetch and the one in C differ");
         expect_same(block_bytes, block_cells, block_length);
-        measure(list, 3);
+        rule_c_fetch_words();
+        if (first != answer)
+            fail("the archive's fetch and the one by words in C differ");
+        expect_same(block_bytes, block_cells, block_length);
+        measure(list, 4);
         printf("| %zu | %zu | %zu | %zu |", p, bytes, records, last_block + 1);
-        print_times(list, 3, 1);
-        printf(" %.2f |", list[2].ratio);
-        print_end(list, 3, 0);
+        print_times(list, 4, 1);
+        printf(" %.2f | %.2f |", list[2].ratio, list[3].ratio);
+        print_end(list, 4, 0);
     }
 }
 

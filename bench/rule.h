@@ -29,9 +29,11 @@ uint64_t rule_strongest_scan(const int64_t *powers, size_t lines, size_t low, si
 uint64_t rule_nearest(const int64_t *powers, size_t lines, size_t chosen, int64_t level);
 uint64_t rule_nearest_scan(const int64_t *powers, size_t lines, size_t chosen, int64_t level);
 
-/* A fetch fills n cells with the samples of block k. */
+/* A fetch fills n cells with the samples of block k: sample by sample, of which the compiler makes vectors; or a word of
+   eight bytes at a time. */
 uint64_t rule_check(const uint8_t *trace, size_t bytes);
 uint64_t rule_fetch(const uint8_t *trace, size_t bytes, size_t k, int64_t *cells, size_t n);
+uint64_t rule_fetch_words(const uint8_t *trace, size_t bytes, size_t k, int64_t *cells, size_t n);
 
 /* A save writes the trace of a run of cells, 2^p to a block, into so many lent bytes at most. It takes several cells at
    a time. The plain one answers and writes the same, but cell by cell and byte by byte. */

@@ -9,6 +9,7 @@ use crate::inputs::{cells_of, negated};
 use crate::random::Random;
 use crate::report::{found, packed, packed_trace, Run};
 use crate::tally::Tally;
+use crate::words;
 use oracle::{Contents, Refusal, Scaled};
 use std::io::Write;
 use std::process::{exit, Command, Stdio};
@@ -236,6 +237,7 @@ impl Comparison {
         self.count_trace(Call::Fetch, sort, &second, trace);
         if let Ok(contents) = &second {
             self.tally.count_fetched(contents.p as usize, k);
+            self.tally.count_cases(Call::Fetch, contents.p as usize, &words::cases(&cells_of(&second_cells)));
         }
         if second.is_err_and(|refusal| refusal.number == 16) {
             self.tally.count_together(Call::Fetch, [16, 2], cells.len() != 8 << trace[10]);

@@ -18,6 +18,7 @@ mod saving;
 mod search;
 mod tally;
 mod traces;
+mod words;
 mod worked;
 
 use call::{Call, LINES, ON_A_BLOCK, SAMPLES};
@@ -64,11 +65,12 @@ fn main() {
         fetches::fetches(&mut c);
         traces(&mut c);
     }
-    // saving is last, and so leaves the random inputs of the others as they are without it
+    // what came later is last, and so leaves the random inputs of the others as they are without it
     let worked = worked + apart(&mut c, worked::saves);
     saves::worked_again(&mut c);
     for _ in 0..rounds {
         saves::saves(&mut c);
+        words::words(&mut c);
     }
     c.tally.print();
     c.tally.must_be_complete();

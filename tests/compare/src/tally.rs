@@ -107,7 +107,7 @@ pub struct Tally {
     /// For each P the saved traces of which each block was read back, and the traces saved again, by their sizes.
     read_back: [[u64; 4]; 11],
     saved_again: [[u64; 4]; 11],
-    /// The cases of the searches and of saving, with the least P of each: how often it was seen at each P.
+    /// The cases of the searches, of saving and of the words of a fetch, with the least P of each: how often it was seen at each P.
     cases: BTreeMap<(Call, &'static str, usize), [u64; 11]>,
     /// The forms of the traces that check refused, and of the heads that save refused: how often each was seen.
     forms: BTreeMap<(Call, &'static str), u64>,
@@ -248,7 +248,7 @@ impl Tally {
 
     fn print_cases(&self) {
         let heads: String = (1..=10).map(|p| format!("{p:>7}")).collect();
-        println!("\n{:56}{heads}", "cases of the searches and of saving, at P");
+        println!("\n{:56}{heads}", "cases of the searches, of saving and of words, at P");
         for ((call, case, _), counts) in &self.cases {
             let counts: String = counts[1..].iter().map(|count| format!("{count:>7}")).collect();
             println!("{:56}{counts}", format!("{call:?}, {case}"));

@@ -51,11 +51,11 @@ fn any_head(p: u16, random: &mut Random) -> Record {
 
 fn any_block(p: u16, random: &mut Random) -> Record {
     let shape = random.pick(&SHAPES);
-    let mut payload = Vec::new();
-    for sample in shaped(shape, 1 << p, SAMPLES, random) {
-        payload.extend_from_slice(&(sample as i16).to_le_bytes());
-    }
-    record(2, payload)
+    block(&shaped(shape, 1 << p, SAMPLES, random))
+}
+
+pub fn block(samples: &[i64]) -> Record {
+    record(2, samples.iter().flat_map(|sample| (*sample as i16).to_le_bytes()).collect())
 }
 
 fn any_note(random: &mut Random) -> Record {
