@@ -3,7 +3,7 @@
 use mathlib.Core.Path.{_≡_, refl, sym, _∙_, ap}
 use mathlib.Core.Bool.{Bool, true, false, cond, _&&_}
 use mathlib.Core.List.{List, []}
-use Prim.Native.Nat.{ℕ, _+_, _-_, _*_, _/_, _%_, _^_, _≤_, _<_}
+use Prim.Native.Nat.{ℕ, _+_, _*_, _/_, _%_, _^_, _≤_, _<_}
 use native.Mathlib.Omega.{arith}
 use borrow.Author.Tests.{eq-eqb, ne-eqb, le-leb, lt-leb, eqb-true, eqb-false, leb-false}
 use lib.Dec.{eqb, leb}
@@ -156,14 +156,6 @@ module _ (most : ℕ) (bytes : List ℕ) (n : ℕ) (e : n ≡ cellCount (CELL * 
 
   pub cells-decoded : (room : List ℤ) → length room ≡ n → decoded bytes room ≡ cellsRead (CELL * most) bytes
   cells-decoded room h = decoded-all bytes room (room-fits (length room) h) ∙ cells-read (length room) h
-
--- ---- the bytes of a cell, from `start` to `end`
-
-pub eight : (bytes : List ℕ) (start end : ℕ) → end ≡ start + CELL → end ≤ length bytes → length (take (end - start) (drop start bytes)) ≡ CELL
-eight bytes start end e h = length-part 0 start (end - start) bytes (omega arith) ∙ many
-  where
-    many : end - start ≡ CELL
-    many = omega arith
 
 -- ---- cells are read from the front of the bytes that is as long as they take
 

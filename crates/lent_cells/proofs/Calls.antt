@@ -41,11 +41,11 @@ told-so low high outputs xs e = ap unpackedBlock e ∙ block-unpacked (tested lo
 
 -- ---- what is left in lent bytes: zs are the cells that the call on the cells that were read leaves, and ws those of the call on all cells
 
-pub back-done : (answer : ℕ) (zs : List ℤ) (before : List ℕ) → numberIn answer ≡ 0 → length before ≡ CELL * length zs → writtenBack answer zs before ≡ spelledSigneds CELL zs
+back-done : (answer : ℕ) (zs : List ℤ) (before : List ℕ) → numberIn answer ≡ 0 → length before ≡ CELL * length zs → writtenBack answer zs before ≡ spelledSigneds CELL zs
 unfolding writtenBack
 back-done answer zs before h room = rw (eq-eqb (numberIn answer) 0 h) (encoded-all before zs room)
 
-pub back-refused : (answer : ℕ) (zs : List ℤ) (before : List ℕ) → eqb (numberIn answer) 0 ≡ false → writtenBack answer zs before ≡ before
+back-refused : (answer : ℕ) (zs : List ℤ) (before : List ℕ) → eqb (numberIn answer) 0 ≡ false → writtenBack answer zs before ≡ before
 unfolding writtenBack
 back-refused answer zs before h = rw h refl
 

@@ -70,6 +70,8 @@ fn main() {
     saves::worked_again(&mut c);
     for _ in 0..rounds {
         saves::saves(&mut c);
+    }
+    for _ in 0..rounds {
         words::words(&mut c);
     }
     c.tally.print();

@@ -107,7 +107,8 @@ pub struct Tally {
     /// For each P the saved traces of which each block was read back, and the traces saved again, by their sizes.
     read_back: [[u64; 4]; 11],
     saved_again: [[u64; 4]; 11],
-    /// The cases of the searches, of saving and of the words of a fetch, with the least P of each: how often it was seen at each P.
+    /// The cases of the searches, of saving and of the words of a fetch, with the least P of each: how often it was
+    /// seen at each P.
     cases: BTreeMap<(Call, &'static str, usize), [u64; 11]>,
     /// The forms of the traces that check refused, and of the heads that save refused: how often each was seen.
     forms: BTreeMap<(Call, &'static str), u64>,

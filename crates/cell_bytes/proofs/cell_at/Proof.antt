@@ -9,9 +9,9 @@ use lib.ListN.{length, take, drop}
 use mir.Facts.{toZ-ofZ}
 use mir.Syntax.{w64}
 use mir.Val.{toZ, ofZ}
+use Rattle.ints.proofs.Slices.{length-between}
 use Rattle.little_endian.specs.Reading.{signedOfWord, signed, unsigned}
 use Rattle.cell_bytes.specs.CellBytes.{cellAt}
-use Rattle.cell_bytes.proofs.CellsRead.{eight}
 use Rattle.cell_bytes.proofs.cell_at.Statement.{statement}
 use Rattle.cell_bytes.proofs.cell_at.Tie as tie
 
@@ -19,7 +19,7 @@ use Rattle.cell_bytes.proofs.cell_at.Tie as tie
 module _ (bytes : List ℕ) (i start end : ℕ) (es : start ≡ 8 * i) (ee : end ≡ start + 8) (h : end ≤ length bytes) where
   is-cell : (word : ℕ) (z : ℤ) → word ≡ unsigned (take (end - start) (drop start bytes)) → z ≡ signedOfWord (256 ^ 8) word → z ≡ cellAt bytes i
   unfolding signed
-  is-cell word z ew ez = ez ∙ ap (signedOfWord (256 ^ 8)) ew ∙ ap (λ (m : ℕ). signedOfWord (256 ^ m) (unsigned (take (end - start) (drop start bytes)))) (sym (eight bytes start end ee h))
+  is-cell word z ew ez = ez ∙ ap (signedOfWord (256 ^ 8)) ew ∙ ap (λ (m : ℕ). signedOfWord (256 ^ m) (unsigned (take (end - start) (drop start bytes)))) (sym (length-between 0 8 start end bytes ee h))
       ∙ ap₂ (λ (m k : ℕ). signed (take m (drop k bytes))) many es
     where
       many : end - start ≡ 8
@@ -41,7 +41,7 @@ part-unsigned-64-end : tie.Need-part-unsigned-64-end
 part-unsigned-64-end c = omega arith
 
 unsigned-64-requires : tie.Need-unsigned-64-requires
-unsigned-64-requires c κs = let i = c .before .before .args .i in eight _ (8 * i) (8 * i + 8) refl (omega arith)
+unsigned-64-requires c κs = let i = c .before .before .args .i in length-between 0 8 (8 * i) (8 * i + 8) _ refl (omega arith)
 
 signed-of-word-requires : tie.Need-signed-of-word-requires
 signed-of-word-requires c κs = tt
