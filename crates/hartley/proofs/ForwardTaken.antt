@@ -1,16 +1,18 @@
 -- What forward leaves of a block that it takes: demand 3 and the law of the first line hold of it, it leaves the negative for the negative of the block, and
--- no call that takes a spectrum refuses it, since it has the length of its block and no line is too loud.
+-- no call that takes a spectrum refuses it, since it has the length of its block and no line is too loud. Where every sample is 0, every line is 0.
 -- Example: `forward-taken outputs xs kind e f : testedSpectrum outputs (forward (kind .p) xs) ≡ Taken kind`, with e : testedSamples xs ≡ Taken kind.
 use mathlib.Core.Path.{_≡_, refl, sym, _∙_, ap}
 use mathlib.Core.Bool.{false}
 use mathlib.Core.List.{List, []}
-use Prim.Native.Nat.{ℕ, _+_, _/_}
+use Prim.Native.Nat.{ℕ, _+_, _/_, _^_, _≤_}
+use native.Mathlib.Nat.{le-trans, mul-le-mul-right}
 use native.Mathlib.Omega.{arith}
 use lib.IntN.{ℤ, pos, negℤ}
 use lib.ListN.{length}
 use Rattle.ints.specs.Cells.{cell, negated}
 use Rattle.ints.specs.Sum.{sum}
-use Rattle.ints.proofs.Abs.{abs-lower, abs-upper}
+use Rattle.ints.proofs.Abs.{abs-lower, abs-upper, abs-zero}
+use Rattle.ints.proofs.Powers.{same-power}
 use Rattle.kind.specs.declared.BlockKind.{BlockKind}
 use Rattle.kind.specs.Loudness.{LOUDEST-LINE}
 use Rattle.block.specs.declared.Answer.the-variants.{Done}
@@ -21,21 +23,45 @@ use Rattle.block.specs.BlockAnswers.{blockAnswer, cellsLeft}
 use Rattle.block.proofs.Negative.{negative-kind}
 use Rattle.block.proofs.Taken.{taken-kind, samples-quiet, must-take}
 use Rattle.spectrum.specs.Spectrum.{forward}
-use Rattle.spectrum.proofs.ForwardDistance.{demand-3, forward-first}
+use Rattle.spectrum.specs.Distance.{E, blockBound, largestMagnitude}
+use Rattle.spectrum.proofs.ForwardDistance.{block-bound-E, demand-3, forward-first}
+use Rattle.spectrum.proofs.LargestMagnitude.{within-largest}
 use Rattle.spectrum.proofs.Loudness.{length-forward, forward-quiet}
 use Rattle.spectrum.proofs.Negative.{forward-negated}
-use Rattle.hartley.specs.Promises.{FirstLineExact, NearDirectSum, NegativeSpectrum, forwardLeft}
+use Rattle.spectrum.proofs.Silent.{forward-silent}
+use Rattle.distance.proofs.Answered.{taken-largest}
+use Rattle.hartley.specs.Promises.{FirstLineExact, NearByE, NearDirectSum, NegativeSpectrum, forwardLeft}
 
 module _ (xs : List ℤ) where
   promised : (k : BlockVerdict) → testedSamples xs ≡ k → blockAnswer k ≡ Done → let ys = cellsLeft (λ P. forward P xs) xs k in NearDirectSum xs ys × FirstLineExact xs ys
   promised (Taken kind) e d = let k = taken-kind _ _ [] xs kind e in (
-    (kind .p, k .cells, demand-3 (kind .p) (k .most) xs (k .cells) (samples-quiet xs kind e)),
+    (kind .p, k .cells, demand-3 (kind .p) (k .most) xs (k .cells) (omega (arith, taken-largest xs kind e))),
     forward-first (kind .p) xs ∙ ap (λ (n : ℕ). sum n (cell xs)) (sym (k .cells)),
   )
   promised (Refused refusal) e d = let z : _≡_ {A = ℕ} 0 1 = cc in absurd (omega arith)
 
   pub near-direct-sum : blockAnswer (testedSamples xs) ≡ Done → NearDirectSum xs (forwardLeft xs)
   near-direct-sum d = promised (testedSamples xs) refl d .0
+
+  -- document 01's figures, read off demand 3 as it is promised
+  by-E : (k : BlockVerdict) → testedSamples xs ≡ k → blockAnswer k ≡ Done → (ys : List ℤ) → NearDirectSum xs ys → NearByE xs ys
+  by-E (Taken kind) e d ys near = let least : blockBound (near .0) xs ≤ E (near .0) = block-bound-E (near .0) (few (near .0) (near .1)) xs (taken-largest xs kind e) in
+      (near .0, near .1, λ v h. le-trans (near .2 v h) (mul-le-mul-right (2 ^ 60) least))
+    where
+      few : (P : ℕ) → length xs ≡ 2 ^ P → P ≤ 10
+      few P long = let k = taken-kind _ _ [] xs kind e in omega (arith, same-power P (kind .p) (sym long ∙ k .cells), k .most)
+  by-E (Refused refusal) e d ys near = let z : _≡_ {A = ℕ} 0 1 = cc in absurd (omega arith)
+
+  pub near-by-E : blockAnswer (testedSamples xs) ≡ Done → (ys : List ℤ) → NearDirectSum xs ys → NearByE xs ys
+  near-by-E d ys near = by-E (testedSamples xs) refl d ys near
+
+  -- Item 6: for M = 0 every line is 0
+  silent : (k : BlockVerdict) → largestMagnitude xs ≡ 0 → (v : ℕ) → cell (cellsLeft (λ P. forward P xs) xs k) v ≡ pos 0
+  silent (Taken kind) none v = forward-silent (kind .p) xs none v
+  silent (Refused refusal) none v = abs-zero (cell xs v) (omega (arith, within-largest xs v))
+
+  pub silent-spectrum : largestMagnitude xs ≡ 0 → (v : ℕ) → cell (forwardLeft xs) v ≡ pos 0
+  silent-spectrum none v = silent (testedSamples xs) none v
 
   pub first-line-exact : blockAnswer (testedSamples xs) ≡ Done → FirstLineExact xs (forwardLeft xs)
   first-line-exact d = promised (testedSamples xs) refl d .1

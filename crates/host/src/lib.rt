@@ -7,6 +7,7 @@ ghost use lib.ListN.{length};
 ghost use Rattle.cell_bytes.specs.CellBytes.{cellsIn};
 ghost use Rattle.block.specs.Tests.{testedLine, testedSamples, testedSpectrum};
 ghost use Rattle.block.specs.BlockAnswers.{blockAnswer, verdictNumbers};
+ghost use Rattle.distance.specs.BoundAnswers.{boundAnswer, boundNumbers};
 ghost use Rattle.hartley.specs.Promises.{FirstLineExact, NearDirectSum, NegativeBlock, NegativeSpectrum};
 ghost use Rattle.fourier.specs.Parts.{testedParts, testedPower};
 ghost use Rattle.fourier.specs.Scaled.{Values};
@@ -20,7 +21,7 @@ ghost use Rattle.save_tests.specs.Save.{ReadsBack, asHead, saveAnswer, savingNu
 ghost use Rattle.save_bytes.specs.SavedOf.{savingOf};
 ghost use Rattle.trace.specs.Contents.{contents};
 ghost use Rattle.trace.specs.TraceAnswers.{contentsNumbers, traceAnswer};
-ghost use Rattle.packing.specs.Packing.{blocksIn, caseIn, caseNumbers, foundIn, lineIn, numberIn, pIn, packed, packedSave, packedScaled, packedSearch, packedTrace, placeIn, rateIn, unpackedBlock, unpackedFetch, unpackedSave, unpackedScaled, unpackedSearch, unpackedTrace, usedIn};
+ghost use Rattle.packing.specs.Packing.{blocksIn, caseIn, caseNumbers, distanceIn, foundIn, lineIn, numberIn, pIn, packed, packedBound, packedSave, packedScaled, packedSearch, packedTrace, placeIn, rateIn, unpackedBlock, unpackedBound, unpackedFetch, unpackedSave, unpackedScaled, unpackedSearch, unpackedTrace, usedIn};
 ghost use Rattle.host.specs.Version.{VERSION};
 
 // The forward spectrum of the block that the bytes spell, in its place.
@@ -34,6 +35,15 @@ pub extern "C" fn hartley_forward(cells: &mut [u8]) -> u64
     ensures negative { λ r. ⌜ (r ≡ 0 → NegativeSpectrum (cellsIn (now (cells .entry))) (cellsIn (now (cells .exit)))) ⌝ }
 {
     block_bytes::forward(cells)
+}
+
+// The bound of the block that the bytes spell: no line of its forward spectrum is farther from the direct sum.
+#[no_mangle]
+pub extern "C" fn hartley_bound(cells: &[u8]) -> u64
+    ensures answer { λ r. ⌜ r ≡ packedBound (boundAnswer (cellsIn (now (cells .entry)))) ⌝ }
+    ensures numbers { λ r. ⌜ unpackedBound r ≡ boundNumbers (cellsIn (now (cells .entry))) ⌝ }
+{
+    packing::packed_bound(bound_bytes::bound(cells))
 }
 
 // The block of the spectrum that the bytes spell, in its place.
@@ -150,6 +160,14 @@ pub extern "C" fn hartley_place(answer: u64) -> u64
     answer / 256
 }
 
+// The bound in the answer of a call for one.
+#[no_mangle]
+pub extern "C" fn hartley_distance(answer: u64) -> u64
+    ensures { λ r. ⌜ r ≡ distanceIn answer ⌝ }
+{
+    answer / 256
+}
+
 // Which case a scaled line is, in the answer of a call for one.
 #[no_mangle]
 pub extern "C" fn hartley_case(answer: u64) -> u64
@@ -211,7 +229,7 @@ pub extern "C" fn hartley_used(answer: u64) -> u64
 pub extern "C" fn hartley_version() -> u64
     ensures { λ r. ⌜ r ≡ VERSION ⌝ }
 {
-    4
+    5
 }
 
 // Byte 1 of an answer.

@@ -21,6 +21,9 @@ use Rattle.refusal.proofs.Numbers.{number-fits}
 use Rattle.block.specs.BlockAnswers.{blockAnswer, verdictNumbers}
 use Rattle.block.specs.declared.Answer.{Answer}
 use Rattle.block.specs.declared.Answer.the-variants.{Done, Refused}
+use Rattle.distance.specs.declared.BoundAnswer.{BoundAnswer}
+use Rattle.distance.specs.declared.BoundAnswer.the-variants.{Bound, Refused as BoundRefused}
+use Rattle.distance.specs.BoundAnswers.{boundAnswerNumbers}
 use Rattle.fourier.specs.declared.ScaledLine.the-variants.{Mean, Last, Pair}
 use Rattle.fourier.specs.Parts.{H}
 use Rattle.fourier.specs.Scaled.{quotient, scaledLine, scaledParts, scaledTo}
@@ -37,7 +40,7 @@ use Rattle.search.specs.SearchAnswers.{searchNumbers}
 use Rattle.save_tests.specs.declared.SaveAnswer.{SaveAnswer}
 use Rattle.save_tests.specs.declared.SaveAnswer.the-variants.{Saved, Refused as SaveRefused}
 use Rattle.save_tests.specs.Save.{saveAnswerNumbers}
-use Rattle.packing.specs.Packing.{blocksIn, caseNumbers, caseOf, numberIn, packed, packedRefusal, packedSave, packedScaled, packedSearch, packedTrace, pIn, placeFor, placeIn, rateIn, unlessRefused, unpackedBlock, unpackedFetch, unpackedSave, unpackedScaled, unpackedSearch, unpackedTrace}
+use Rattle.packing.specs.Packing.{blocksIn, caseNumbers, caseOf, numberIn, packed, packedBound, packedRefusal, packedSave, packedScaled, packedSearch, packedTrace, pIn, placeFor, placeIn, rateIn, unlessRefused, unpackedBlock, unpackedBound, unpackedFetch, unpackedSave, unpackedScaled, unpackedSearch, unpackedTrace}
 
 -- ---- a refusal
 
@@ -197,6 +200,14 @@ search-unpacked asked (Found line) tellable fits = let v = line .0 in let h = fi
 search-unpacked asked None tellable fits = refl
 search-unpacked asked (SearchRefused refusal) tellable fits = told refusal _ _ (place-for asked refusal (tellable refusal refl))
 
+-- ---- a number in seven bytes, as the bytes that a saved trace takes or the bound of a block
+
+seven-bytes : (n : ℕ) → n < 256 ^ 7 → let a = 256 * (n % 256 ^ 7) in (numberIn a ≡ 0) × (a / 256 ≡ n)
+seven-bytes n h = (omega arith, omega arith)
+
+seven-told : (n shown : ℕ) → n < 256 ^ 7 → let a = 256 * (n % 256 ^ 7) in unlessRefused a shown (a / 256 ∷ []) ≡ n ∷ []
+seven-told n shown h = let s = seven-bytes n h in rw (eq-eqb (numberIn (256 * (n % 256 ^ 7))) 0 (s .0), s .1) refl
+
 -- ---- a call that saves
 
 -- the bytes that are used, or the place, fit seven bytes
@@ -204,12 +215,19 @@ abbrev pub SevenBytes : SaveAnswer → Type 0
 SevenBytes (Saved used) = used < 256 ^ 7
 SevenBytes (SaveRefused refusal) = place refusal < 256 ^ 7
 
-used-unpacked : (used : ℕ) → used < 256 ^ 7 → unpackedSave (256 * (used % 256 ^ 7)) ≡ used ∷ []
-unfolding unpackedSave
-used-unpacked used h = let same : used % 256 ^ 7 ≡ used = omega arith in let none : numberIn (256 * used) ≡ 0 = omega arith in let back : 256 * used / 256 ≡ used = omega arith in
-    rw (same, eq-eqb (numberIn (256 * used)) 0 none, back) refl
-
 pub save-unpacked : (answer : SaveAnswer) → SevenBytes answer → unpackedSave (packedSave answer) ≡ saveAnswerNumbers answer
 unfolding unpackedSave
-save-unpacked (Saved used) h = used-unpacked used h
+save-unpacked (Saved used) h = seven-told used _ h
 save-unpacked (SaveRefused refusal) h = told refusal _ _ (place-back refusal h)
+
+-- ---- a call for a bound
+
+-- the bound, or the place, fits seven bytes
+abbrev pub BoundFits : BoundAnswer → Type 0
+BoundFits (Bound bound) = bound < 256 ^ 7
+BoundFits (BoundRefused refusal) = place refusal < 256 ^ 7
+
+pub bound-unpacked : (answer : BoundAnswer) → BoundFits answer → unpackedBound (packedBound answer) ≡ boundAnswerNumbers answer
+unfolding unpackedBound
+bound-unpacked (Bound bound) h = seven-told bound _ h
+bound-unpacked (BoundRefused refusal) h = told refusal _ _ (place-back refusal h)

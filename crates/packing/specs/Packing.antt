@@ -1,7 +1,7 @@
 -- What the plain number means that answers a host in C. In eight bytes, least byte first: a refusal is its number in one byte and the lower seven bytes of
 -- its place; an accepted trace is 0 in one byte, P in one, the number of blocks in two and the rate in four; a scaled line is 0 in one byte and its case in
 -- the next; a line that a search finds is 0 in one byte, 1 in the next and the line in two; a saved trace is 0 in one byte and the bytes that it takes in seven; a
--- search that finds none and a call on a block that is done are 0.
+-- bound is 0 in one byte and the bound in seven; a search that finds none and a call on a block that is done are 0.
 use mathlib.Core.Bool.{cond, _||_}
 use mathlib.Core.List.{List, [], _∷_, _++_}
 use Prim.Native.Nat.{ℕ, _+_, _*_, _/_, _%_, _^_}
@@ -14,6 +14,8 @@ use Rattle.block.specs.declared.BlockVerdict.{BlockVerdict}
 use Rattle.block.specs.declared.BlockVerdict.the-variants.{Taken, Refused as BlockRefused}
 use Rattle.block.specs.declared.Answer.{Answer}
 use Rattle.block.specs.declared.Answer.the-variants.{Done, Refused}
+use Rattle.distance.specs.declared.BoundAnswer.{BoundAnswer}
+use Rattle.distance.specs.declared.BoundAnswer.the-variants.{Bound, Refused as BoundRefused}
 use Rattle.trace.specs.declared.TraceAnswer.{TraceAnswer}
 use Rattle.trace.specs.declared.TraceAnswer.the-variants.{Accepted, Refused as TraceRefused}
 use Rattle.search.specs.declared.SearchAnswer.{SearchAnswer}
@@ -31,6 +33,10 @@ packedRefusal refusal = number refusal + 256 * (place refusal % 256 ^ 7)
 abbrev pub packed : Answer → ℕ
 packed Done = 0
 packed (Refused refusal) = packedRefusal refusal
+
+abbrev pub packedBound : BoundAnswer → ℕ
+packedBound (Bound bound) = 256 * (bound % 256 ^ 7)
+packedBound (BoundRefused refusal) = packedRefusal refusal
 
 abbrev pub packedTrace : TraceAnswer → ℕ
 packedTrace (Accepted head blocks) = unsigned (spelled 1 0 ++ spelled 1 (head .p) ++ spelled 2 blocks ++ spelled 4 (head .rate))
@@ -84,6 +90,9 @@ lineIn answer = answer / 256 ^ 2 % 256 ^ 2
 abbrev pub usedIn : ℕ → ℕ
 usedIn answer = answer / 256
 
+abbrev pub distanceIn : ℕ → ℕ
+distanceIn answer = answer / 256
+
 -- The place of 4 and 16 is the line or the block that was asked for, which the host has itself.
 abbrev pub placeFor : ℕ → ℕ → ℕ
 placeFor asked answer = cond (eqb (numberIn answer) 4 || eqb (numberIn answer) 16) asked (placeIn answer)
@@ -118,3 +127,7 @@ unpackedSearch asked answer = unlessRefused answer (placeFor asked answer) (cond
 -- of a call that saves: the bytes that are used
 unfoldable pub unpackedSave : ℕ → List ℕ
 unpackedSave answer = unlessRefused answer (placeIn answer) (usedIn answer ∷ [])
+
+-- of a call for a bound: the bound
+unfoldable pub unpackedBound : ℕ → List ℕ
+unpackedBound answer = unlessRefused answer (placeIn answer) (distanceIn answer ∷ [])

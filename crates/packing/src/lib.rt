@@ -1,5 +1,6 @@
 // Answers as plain numbers, for hosts in C (document 01, Parts of the engine).
 use block::Answer;
+use distance::BoundAnswer;
 use fourier::ScaledLine;
 use record::Head;
 use refusal::Refusal;
@@ -8,7 +9,7 @@ use search::SearchAnswer;
 use trace::TraceAnswer;
 ghost use mathlib.Core.Path.{_≡_};
 ghost use Rattle.trace.specs.declared.TraceAnswer.the-variants.{Accepted};
-ghost use Rattle.packing.specs.Packing.{packed, packedRefusal, packedSave, packedScaled, packedSearch, packedTrace};
+ghost use Rattle.packing.specs.Packing.{packed, packedBound, packedRefusal, packedSave, packedScaled, packedSearch, packedTrace};
 
 // The cases of a scaled line.
 const MEAN: u64 = 1;
@@ -24,6 +25,16 @@ pub fn packed(answer: Answer) -> u64
     match answer {
         Answer::Done => 0,
         Answer::Refused(refusal) => packed_refusal(refusal),
+    }
+}
+
+// The bound of a block, or the refusal. Of a number that does not fit seven bytes the upper one is left off.
+pub fn packed_bound(answer: BoundAnswer) -> u64
+    ensures { λ r. ⌜ r ≡ packedBound answer ⌝ }
+{
+    match answer {
+        BoundAnswer::Bound(bound) => 256 * (bound % 72057594037927936),
+        BoundAnswer::Refused(refusal) => packed_refusal(refusal),
     }
 }
 

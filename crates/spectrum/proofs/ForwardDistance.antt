@@ -1,7 +1,8 @@
--- Demand 3 as document 01 has it: the distance theorem, the exact line 0 and the magnitude law, at the scale and the rounding in force.
+-- Demand 3 at the block's own M (document 02, Item 6), and with document 01's figures E: the distance theorem, the exact line 0 and the magnitude law, at
+-- the scale and the rounding in force.
 -- The proof goes in six steps, one file each: the even/odd law of the levels (EvenOdd), the same split of the direct sum (DirectSplit), the
 -- identity for one line and its bounds (Step), one level (OneLevel), the induction over the levels (Distance), and the figures here.
--- Example: `demand-3 10 few xs long quiet : WithinE 10 xs (forward 10 xs)`.
+-- Example: `demand-3 10 few xs long small : LinesWithin (blockBound 10 xs) xs (forward 10 xs)`.
 use mathlib.Core.Path.{_≡_, sym}
 use mathlib.Core.List.{List}
 use Prim.Native.Nat.{ℕ, _+_, _*_, _-_, _/_, _%_, _^_, _≤_, _<_}
@@ -21,7 +22,9 @@ use Rattle.kind.specs.Loudness.{LOUDEST-SAMPLE, LOUDEST-LINE}
 use Rattle.spectrum.specs.Levels.{permuted}
 use Rattle.spectrum.specs.Spectrum.{tableCosine, tableSine, levelsAt, forwardAt, forward}
 use Rattle.spectrum.specs.Limits.{LARGEST-CELL, LARGEST-PRODUCT, Room}
-use Rattle.spectrum.specs.Distance.{bound, directSum, E, WithinE}
+use Rattle.spectrum.specs.Distance.{LinesWithin, blockBound, bound, directSum, E, largestMagnitude}
+use Rattle.spectrum.proofs.Bound.{bound-grows}
+use Rattle.spectrum.proofs.LargestMagnitude.{within-largest}
 use Rattle.spectrum.proofs.Nearest.{LARGEST-M, Nearest, nearest-at}
 use Rattle.spectrum.proofs.Distance.{distance}
 use Rattle.spectrum.proofs.Magnitude.{level-size}
@@ -47,9 +50,13 @@ figures = tt
 pub E-is-bound : (P : ℕ) → P ≤ 10 → bound SCALE LOUDEST-SAMPLE P ≡ E P
 E-is-bound P few = eqb→eq _ _ (alongside-at eqb (bound SCALE LOUDEST-SAMPLE) E 11 11 figures P (omega arith))
 
-pub demand-3 : (P : ℕ) → P ≤ 10 → (xs : List ℤ) → length xs ≡ 2 ^ P → ((t : ℕ) → natAbs (cell xs t) ≤ LOUDEST-SAMPLE) → WithinE P xs (forward P xs)
+-- and so no block whose M is at most 32,768 has a larger bound than E(P)
+pub block-bound-E : (P : ℕ) → P ≤ 10 → (xs : List ℤ) → largestMagnitude xs ≤ LOUDEST-SAMPLE → blockBound P xs ≤ E P
+block-bound-E P few xs quiet = omega (arith, bound-grows SCALE (omega arith) (largestMagnitude xs) LOUDEST-SAMPLE quiet P, E-is-bound P few)
+
+pub demand-3 : (P : ℕ) → P ≤ 10 → (xs : List ℤ) → length xs ≡ 2 ^ P → largestMagnitude xs ≤ LARGEST-M → LinesWithin (blockBound P xs) xs (forward P xs)
 unfolding forward
-demand-3 P few xs long quiet v h = rw (← E-is-bound P few) (distance-at SCALE-DIGITS (omega arith) (omega arith) LOUDEST-SAMPLE (omega arith) P few xs long quiet v h)
+demand-3 P few xs long small v h = distance-at SCALE-DIGITS (omega arith) (omega arith) (largestMagnitude xs) small P few xs long (within-largest xs) v (omega arith)
 
 -- ---- line 0 is the sum of the samples
 

@@ -9,6 +9,9 @@ pub mod OneLevel
 pub mod Distance
 pub mod Magnitude
 pub mod FirstLine
+pub mod LargestMagnitude
+pub mod Bound
 pub mod ForwardDistance
 pub mod Loudness
 pub mod Negative
+pub mod Silent

@@ -1,0 +1,25 @@
+-- Document 02's numbers in the packed answer of a call for a bound: the bound fits its seven bytes, and so does the place of a refusal.
+-- Example: `bound-told xs e : unpackedBound answer ≡ boundNumbers xs`, with e : answer ≡ packedBound (boundAnswer xs).
+use mathlib.Core.Path.{_≡_, refl, _∙_, ap}
+use mathlib.Core.List.{List, []}
+use Prim.Native.Nat.{ℕ}
+use native.Mathlib.Omega.{arith}
+use lib.IntN.{ℤ}
+use Rattle.kind.specs.Loudness.{LEAST-SAMPLE, LARGEST-SAMPLE}
+use Rattle.block.specs.declared.BlockVerdict.{BlockVerdict}
+use Rattle.block.specs.declared.BlockVerdict.the-variants.{Taken, Refused}
+use Rattle.block.specs.Tests.{testedSamples}
+use Rattle.block.proofs.Refused.{refused-place}
+use Rattle.distance.specs.BoundAnswers.{boundAnswer, boundNumbers, boundTo}
+use Rattle.distance.proofs.Answered.{answered-numbers, taken-bound}
+use Rattle.packing.specs.Packing.{packedBound, unpackedBound}
+use Rattle.packing.proofs.Packing.{BoundFits, bound-unpacked}
+
+module _ (xs : List ℤ) where
+  fits : (k : BlockVerdict) → testedSamples xs ≡ k → BoundFits (boundTo xs k)
+  fits (Taken kind) e = taken-bound xs kind e
+  fits (Refused refusal) e = omega (arith, refused-place LEAST-SAMPLE LARGEST-SAMPLE [] xs refusal e)
+
+  pub bound-told : {answer : ℕ} → answer ≡ packedBound (boundAnswer xs) → unpackedBound answer ≡ boundNumbers xs
+  unfolding boundAnswer
+  bound-told e = ap unpackedBound e ∙ bound-unpacked (boundAnswer xs) (fits (testedSamples xs) refl) ∙ answered-numbers xs refl .1

@@ -1,0 +1,60 @@
+-- What the call `bound` answers: in numbers it is the first row of refused input that is given, or the bound; and the bound is the one that forward promises.
+-- Example: `answered-bound xs e P long : B ≡ blockBound P xs`, with e : boundAnswer xs ≡ Bound B and long : length xs ≡ 2 ^ P.
+use mathlib.Core.Path.{_≡_, refl, sym, _∙_, ap}
+use mathlib.Core.Bool.{Bool, true, false}
+use mathlib.Core.List.{List, [], _∷_}
+use Prim.Native.Nat.{ℕ, zero, suc, _+_, _*_, _^_, _≤_, _<_}
+use native.Mathlib.Nat.{mul-le-mul, mul-le-mul-right}
+use native.Mathlib.Omega.{arith}
+use borrow.Author.Tests.{ne-eqb}
+use lib.Dec.{ltb}
+use lib.IntN.{ℤ}
+use lib.ListN.{length}
+use lib.Pow.{pow-mono}
+use Rattle.ints.proofs.Powers.{same-power}
+use Rattle.kind.specs.declared.BlockKind.{BlockKind}
+use Rattle.kind.specs.BlockKinds.{SCALE, exponent, kindOf}
+use Rattle.kind.specs.Loudness.{LEAST-SAMPLE, LARGEST-SAMPLE, LOUDEST-SAMPLE}
+use Rattle.refusal.specs.declared.Refusal.{Refusal}
+use Rattle.block.specs.declared.BlockVerdict.{BlockVerdict}
+use Rattle.block.specs.declared.BlockVerdict.the-variants.{Taken, Refused as BlockRefused}
+use Rattle.block.specs.Tests.{firstLoud, misfit, tested, testedSamples}
+use Rattle.block.specs.TestTable.{firstGiven}
+use Rattle.block.proofs.Taken.{samples-quiet, taken-kind}
+use Rattle.spectrum.specs.Distance.{blockBound, largestMagnitude}
+use Rattle.spectrum.proofs.LargestMagnitude.{largest-least}
+use Rattle.spectrum.proofs.Bound.{bound-size}
+use Rattle.distance.specs.declared.BoundAnswer.{BoundAnswer}
+use Rattle.distance.specs.declared.BoundAnswer.the-variants.{Bound, Refused}
+use Rattle.distance.specs.BoundAnswers.{boundAnswer, boundAnswerNumbers, boundNumbers, boundTo}
+
+module _ (xs : List ℤ) where
+  -- M of a block that is taken
+  pub taken-largest : (kind : BlockKind) → testedSamples xs ≡ Taken kind → largestMagnitude xs ≤ LOUDEST-SAMPLE
+  taken-largest kind e = largest-least LOUDEST-SAMPLE xs (samples-quiet xs kind e)
+
+  -- and its bound: it fits seven bytes
+  pub taken-bound : (kind : BlockKind) → testedSamples xs ≡ Taken kind → blockBound (kind .p) xs < 256 ^ 7
+  taken-bound kind e = let cells : 2 ^ kind .p ≤ 2 ^ 10 = pow-mono (taken-kind _ _ [] xs kind e .most) in
+      omega (arith, bound-size SCALE (omega arith) (largestMagnitude xs) (kind .p), mul-le-mul-right (largestMagnitude xs + 1) (mul-le-mul cells cells), taken-largest kind e)
+
+  -- ---- in numbers, by the outcome of each test: whether P is 0, and whether a cell is loud
+
+  by-two : (P : ℕ) (loud : Bool) → exponent 10 (length xs) ≡ P → ltb (firstLoud LEAST-SAMPLE LARGEST-SAMPLE xs) (length xs) ≡ loud → boundAnswerNumbers (boundAnswer xs) ≡ boundNumbers xs
+  unfolding boundAnswer boundNumbers tested kindOf firstGiven misfit
+  by-two zero loud e f = rw e refl
+  by-two (suc m) true e f = rw (e, ne-eqb (suc m) 0 (λ z. omega arith), f) refl
+  by-two (suc m) false e f = rw (e, ne-eqb (suc m) 0 (λ z. omega arith), f) refl
+
+  pub answered-numbers : {r : BoundAnswer} → r ≡ boundAnswer xs → (r ≡ boundAnswer xs) × (boundAnswerNumbers r ≡ boundNumbers xs)
+  answered-numbers e = (e, ap boundAnswerNumbers e ∙ by-two _ _ refl refl)
+
+  -- ---- the bound that is answered
+
+  told : (k : BlockVerdict) → testedSamples xs ≡ k → {B : ℕ} → boundTo xs k ≡ Bound B → (P : ℕ) → length xs ≡ 2 ^ P → B ≡ blockBound P xs
+  told (Taken kind) e {B} f P long = let is : blockBound (kind .p) xs ≡ B = cc in sym is ∙ ap (λ (Q : ℕ). blockBound Q xs) (same-power (kind .p) P (sym (taken-kind _ _ [] xs kind e .cells) ∙ long))
+  told (BlockRefused refusal) e f P long = let z : _≡_ {A = ℕ} 0 1 = cc in absurd (omega arith)
+
+  pub answered-bound : {B : ℕ} → boundAnswer xs ≡ Bound B → (P : ℕ) → length xs ≡ 2 ^ P → B ≡ blockBound P xs
+  unfolding boundAnswer
+  answered-bound e P long = told (testedSamples xs) refl e P long

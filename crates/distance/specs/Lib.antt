@@ -1,0 +1,2 @@
+pub mod BoundAnswers
+pub mod Inner
