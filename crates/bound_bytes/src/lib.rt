@@ -1,42 +1,52 @@
-// The bound of a block whose cells are bytes, for hosts in C (document 02, Item 6).
-use cell_bytes::CELL;
+// The bound of a block whose cells are bytes, for hosts in C (document 02, Item 6). It makes the steps of `distance` and rests on its laws; the bytes of a
+// cell are read where they stand, so nothing is copied.
+use block::LARGEST_SAMPLE;
+use block::LEAST_SAMPLE;
 use distance::BoundAnswer;
+use distance::Heard;
 use kind::BlockKind;
+use kind::KindFound;
+use refusal::Refusal;
 ghost use mathlib.Core.Path.{_≡_};
-ghost use Prim.Native.Nat.{_*_};
 ghost use lib.ListN.{length};
-ghost use Rattle.kind.specs.BlockKinds.{LARGEST};
-ghost use Rattle.cell_bytes.specs.CellBytes.{CELL, cellCount, cellsIn};
+ghost use Rattle.cell_bytes.specs.CellBytes.{cellsIn};
 ghost use Rattle.distance.specs.BoundAnswers.{boundAnswer};
+ghost use Rattle.distance.specs.Inner.{Listened};
 
-// The cells of a small room. A call clears its room, and a small block should not wait for the room of the largest.
-const SMALL: usize = 16;
-
-// The cells of a middle room.
-const MIDDLE: usize = 128;
-
-// The bound of the block that the bytes spell, with room by the number of its cells.
+// The bound of the block that the bytes spell.
 pub fn bound(bytes: &[u8]) -> BoundAnswer
     ensures { λ r. ⌜ r ≡ boundAnswer (cellsIn (now (bytes .entry))) ⌝ }
 {
-    let samples = cell_bytes::cell_count(CELL * BlockKind::LARGEST, bytes.len());
-    if samples <= SMALL {
-        let mut room = [0i64; SMALL];
-        return bound_in(bytes, &mut room[..samples]);
+    let cells = cell_bytes::cell_count(bytes.len(), bytes.len());
+    match BlockKind::of_len(cells) {
+        KindFound::None => BoundAnswer::Refused(Refusal::Length),
+        KindFound::Found(kind) => {
+            let heard = listen(bytes, cells);
+            distance::answer(kind.p, cells, heard.samples, heard.largest)
+        }
     }
-    if samples <= MIDDLE {
-        let mut room = [0i64; MIDDLE];
-        return bound_in(bytes, &mut room[..samples]);
-    }
-    let mut room = [0i64; BlockKind::LARGEST];
-    bound_in(bytes, &mut room[..samples])
 }
 
-// The bound, by room for as many cells as the bytes are read as.
-fn bound_in(bytes: &[u8], cells: &mut [i64]) -> BoundAnswer
-    requires { ⌜ length (now cells) ≡ cellCount (CELL * LARGEST) (length (now bytes)) ⌝ }
-    ensures { λ r. ⌜ r ≡ boundAnswer (cellsIn (now (bytes .entry))) ⌝ }
+// Goes through the cells, so many of them, up to the first loud one.
+fn listen(bytes: &[u8], cells: usize) -> Heard
+    requires { ⌜ cells ≡ length (cellsIn (now bytes)) ⌝ }
+    ensures { λ r. ⌜ Listened (cellsIn (now (bytes .entry))) r ⌝ }
 {
-    cell_bytes::decode(&bytes[..CELL * cells.len()], cells);
-    distance::bound(cells)
+    let mut largest = 0;
+    let mut i = 0;
+    while i < cells {
+        let x = cell_bytes::cell_at(bytes, i);
+        if block::loud(LEAST_SAMPLE, LARGEST_SAMPLE, x) {
+            return Heard {
+                samples: i,
+                largest,
+            };
+        }
+        largest = distance::louder(largest, x);
+        i += 1;
+    }
+    Heard {
+        samples: i,
+        largest,
+    }
 }

@@ -6,19 +6,21 @@ use mathlib.Core.List.{List, [], _∷_}
 use Prim.Native.Nat.{ℕ, zero, suc, _+_, _*_, _^_, _≤_, _<_}
 use native.Mathlib.Nat.{mul-le-mul, mul-le-mul-right}
 use native.Mathlib.Omega.{arith}
-use borrow.Author.Tests.{ne-eqb}
+use borrow.Author.Tests.{le-ltb, ltb-false, ne-eqb}
 use lib.Dec.{ltb}
 use lib.IntN.{ℤ}
 use lib.ListN.{length}
 use lib.Pow.{pow-mono}
 use Rattle.ints.proofs.Powers.{same-power}
 use Rattle.kind.specs.declared.BlockKind.{BlockKind}
+use Rattle.kind.specs.declared.KindFound.the-variants.{Found, None}
 use Rattle.kind.specs.BlockKinds.{SCALE, exponent, kindOf}
 use Rattle.kind.specs.Loudness.{LEAST-SAMPLE, LARGEST-SAMPLE, LOUDEST-SAMPLE}
 use Rattle.refusal.specs.declared.Refusal.{Refusal}
+use Rattle.refusal.specs.declared.Refusal.the-variants.{Length, Loud}
 use Rattle.block.specs.declared.BlockVerdict.{BlockVerdict}
 use Rattle.block.specs.declared.BlockVerdict.the-variants.{Taken, Refused as BlockRefused}
-use Rattle.block.specs.Tests.{firstLoud, misfit, tested, testedSamples}
+use Rattle.block.specs.Tests.{firstLoud, misfit, refusedIf, tested, testedSamples}
 use Rattle.block.specs.TestTable.{firstGiven}
 use Rattle.block.proofs.Taken.{samples-quiet, taken-kind}
 use Rattle.spectrum.specs.Distance.{blockBound, largestMagnitude}
@@ -26,6 +28,8 @@ use Rattle.spectrum.proofs.LargestMagnitude.{largest-least}
 use Rattle.spectrum.proofs.Bound.{bound-size}
 use Rattle.distance.specs.declared.BoundAnswer.{BoundAnswer}
 use Rattle.distance.specs.declared.BoundAnswer.the-variants.{Bound, Refused}
+use Rattle.distance.specs.declared.Heard.{Heard}
+use Rattle.distance.specs.Inner.{CanAnswer, Listened, answerBy}
 use Rattle.distance.specs.BoundAnswers.{boundAnswer, boundAnswerNumbers, boundNumbers, boundTo}
 
 module _ (xs : List ℤ) where
@@ -48,6 +52,33 @@ module _ (xs : List ℤ) where
 
   pub answered-numbers : {r : BoundAnswer} → r ≡ boundAnswer xs → (r ≡ boundAnswer xs) × (boundAnswerNumbers r ≡ boundNumbers xs)
   answered-numbers e = (e, ap boundAnswerNumbers e ∙ by-two _ _ refl refl)
+
+  -- ---- by the kind that was found for its length, n, and by what was heard of it
+
+  module _ {n : ℕ} (en : n ≡ length xs) where
+    pub answered-none : kindOf n ≡ None → Refused Length ≡ boundAnswer xs
+    unfolding boundAnswer tested misfit
+    answered-none e = rw (rw en at e) refl
+
+    module _ (kind : BlockKind) (e : kindOf n ≡ Found kind) {heard : Heard} (l : Listened xs heard) where
+      by-place : testedSamples xs ≡ refusedIf (ltb (heard .samples) n) (Loud (heard .samples)) (Taken kind)
+      unfolding tested misfit
+      by-place = rw (l .first, en, rw en at e) refl
+
+      taken : n ≤ heard .samples → testedSamples xs ≡ Taken kind
+      taken h = by-place ∙ rw (le-ltb (heard .samples) n h) refl
+
+      pub answered-can : CanAnswer (kind .p) n (heard .samples) (heard .largest)
+      answered-can h = let t = taken h in
+          record { some = omega arith; scale = omega arith; quiet = omega (arith, l .largest (omega arith), taken-largest kind t); most = taken-kind _ _ [] xs kind t .most }
+
+      by-heard : (t : Bool) → ltb (heard .samples) n ≡ t → answerBy (kind .p) n (heard .samples) (heard .largest) ≡ boundAnswer xs
+      unfolding answerBy boundAnswer
+      by-heard true t = rw (by-place, t) refl
+      by-heard false t = rw (by-place, t, l .largest (omega (arith, ltb-false (heard .samples) n t))) refl
+
+      pub answered-heard : answerBy (kind .p) n (heard .samples) (heard .largest) ≡ boundAnswer xs
+      answered-heard = by-heard _ refl
 
   -- ---- the bound that is answered
 

@@ -1,1 +1,2 @@
+pub mod Listening
 pub mod Answered

@@ -1,13 +1,15 @@
 // How far a line of a forward spectrum can lie from the direct sum, by the loudest sample of the block (document 02, Item 6).
-use block::BlockVerdict;
+use block::LARGEST_SAMPLE;
+use block::LEAST_SAMPLE;
 use kind::BlockKind;
+use kind::KindFound;
 use refusal::Refusal;
 ghost use mathlib.Core.Path.{_≡_};
 ghost use Prim.Native.Nat.{_+_, _*_, max};
 ghost use lib.IntN.{natAbs};
-ghost use Rattle.spectrum.specs.Distance.{bound, ceiling, largestMagnitude};
+ghost use Rattle.spectrum.specs.Distance.{bound, ceiling};
 ghost use Rattle.distance.specs.BoundAnswers.{boundAnswer, boundAnswerNumbers, boundNumbers};
-ghost use Rattle.distance.specs.Inner.{CanBound, CanStep};
+ghost use Rattle.distance.specs.Inner.{CanAnswer, CanBound, CanStep, Listened, answerBy};
 
 // What is answered of a block: its bound, or why it has none.
 pub enum BoundAnswer {
@@ -15,35 +17,63 @@ pub enum BoundAnswer {
     Refused(Refusal),
 }
 
+// What was heard of a block: how many samples come before the first loud one, and the largest magnitude among them.
+pub struct Heard {
+    pub samples: usize,
+    pub largest: u64,
+}
+
 // The bound for a block of samples: no line of its forward spectrum is farther from the direct sum. It takes the blocks that forward takes.
 pub fn bound(cells: &[i64]) -> BoundAnswer
     ensures answer { λ r. ⌜ r ≡ boundAnswer (now (cells .entry)) ⌝ }
     ensures numbers { λ r. ⌜ boundAnswerNumbers r ≡ boundNumbers (now (cells .entry)) ⌝ }
 {
-    match block::tested_samples(cells) {
-        BlockVerdict::Refused(refusal) => BoundAnswer::Refused(refusal),
-        BlockVerdict::Taken(kind) => {
-            let largest = largest_magnitude(cells);
-            BoundAnswer::Bound(bound_for(BlockKind::SCALE as u64, largest, kind.p))
+    match BlockKind::of_len(cells.len()) {
+        KindFound::None => BoundAnswer::Refused(Refusal::Length),
+        KindFound::Found(kind) => {
+            let heard = listen(cells);
+            answer(kind.p, cells.len(), heard.samples, heard.largest)
         }
     }
 }
 
-// The largest magnitude of the cells, or 0 where there is none.
-pub fn largest_magnitude(cells: &[i64]) -> u64
-    ensures { λ r. ⌜ r ≡ largestMagnitude (now (cells .entry)) ⌝ }
+// The answer for so many cells, 2^p of them, by how many samples come before the first loud one, and the largest magnitude among them.
+pub fn answer(p: usize, cells: usize, samples: usize, largest: u64) -> BoundAnswer
+    requires { ⌜ CanAnswer p cells samples largest ⌝ }
+    ensures { λ r. ⌜ r ≡ answerBy p cells samples largest ⌝ }
+{
+    if samples < cells {
+        BoundAnswer::Refused(Refusal::Loud(samples))
+    } else {
+        BoundAnswer::Bound(bound_for(BlockKind::SCALE as u64, largest, p))
+    }
+}
+
+// Goes through the cells up to the first loud one.
+fn listen(cells: &[i64]) -> Heard
+    ensures { λ r. ⌜ Listened (now (cells .entry)) r ⌝ }
 {
     let mut largest = 0;
     let mut i = 0;
     while i < cells.len() {
-        largest = louder(largest, cells[i]);
+        let x = cells[i];
+        if block::loud(LEAST_SAMPLE, LARGEST_SAMPLE, x) {
+            return Heard {
+                samples: i,
+                largest,
+            };
+        }
+        largest = louder(largest, x);
         i += 1;
     }
-    largest
+    Heard {
+        samples: i,
+        largest,
+    }
 }
 
 // The larger of a magnitude and that of x.
-fn louder(largest: u64, x: i64) -> u64
+pub fn louder(largest: u64, x: i64) -> u64
     ensures { λ r. ⌜ r ≡ max largest (natAbs x) ⌝ }
 {
     let magnitude = ints::magnitude(x);
@@ -56,7 +86,7 @@ fn louder(largest: u64, x: i64) -> u64
 
 // The bound for 2^p samples of at most this magnitude, at this scale. Levels 1 and 2 are exact; each level more joins halves of
 // twice as many samples.
-pub fn bound_for(scale: u64, largest: u64, p: usize) -> u64
+fn bound_for(scale: u64, largest: u64, p: usize) -> u64
     requires { ⌜ CanBound scale largest p ⌝ }
     ensures { λ r. ⌜ r ≡ bound scale largest p ⌝ }
 {

@@ -1,68 +1,57 @@
--- `bound` is right because `bound_in` is, and each room is taken where it is large enough.
-use borrow.Author.Needs.{needs}
-use mathlib.Core.Path.{sym, _∙_}
-use native.Mathlib.Omega.{arith}
-use lib.Seq.{length-take-le}
+-- `bound` is right because it counts the cells that the bytes spell, refuses a number that no block has, and then answers by what was heard of them.
+use mathlib.Core.Path.{_≡_, sym, _∙_}
+use lib.ListN.{length}
+use denote.Ref.{now}
+use Rattle.kind.specs.BlockKinds.{kindOf}
+use Rattle.kind.specs.declared.KindFound.the-variants.{Found}
+use Rattle.cell_bytes.specs.CellBytes.{cellsIn}
+use Rattle.cell_bytes.proofs.CellsRead.{count-all}
+use Rattle.distance.proofs.Answered.{answered-can, answered-heard, answered-none}
 use Rattle.bound_bytes.proofs.bound.Statement.{statement}
 use Rattle.bound_bytes.proofs.bound.Tie as tie
 
-mul-cell-count : tie.Need-mul-cell-count
-mul-cell-count c = search needs
+-- as many as the bytes spell
+counted : (n : tie.After-cell-count) → n .cell-count .result ≡ length (cellsIn (now (n .before .before .args .bytes)))
+counted n = n .cell-count .ensures .0 ∙ count-all (now (n .before .before .args .bytes))
+
+-- the kind that was found for their number
+found : (k : tie.After-kind) → kindOf (k .before .before .before .cell-count .result) ≡ Found (k .kind .given .0 .0)
+found k = sym (k .before .before .of-len .ensures .0) ∙ k .kind .given .1
 
 cell-count-requires : tie.Need-cell-count-requires
 cell-count-requires c κs = tt
 
-array-borrow-prefix-room : tie.Need-array-borrow-prefix-room
-array-borrow-prefix-room c = omega arith
+of-len-requires : tie.Need-of-len-requires
+of-len-requires c κs = tt
 
-slice-aggregate-bound-in : tie.Need-slice-aggregate-bound-in
-slice-aggregate-bound-in c = sym (length-take-le _ _ (omega arith))
+enum-told : tie.Need-enum-told
+enum-told c = c .match .keys1
 
-bound-in-requires : tie.Need-bound-in-requires
-bound-in-requires c κs = length-take-le _ _ (omega arith) ∙ c .before .before .cell-count .ensures .0
+enum-known-kind : tie.Need-enum-known-kind
+enum-known-kind c = c .match .keys2
+
+listen-requires : tie.Need-listen-requires
+listen-requires c κs = counted (c .before .before .before .before)
+
+answer-requires : tie.Need-answer-requires
+answer-requires c κs = let k = c .before .before in let n = k .before .before .before in answered-can (cellsIn (now (n .before .before .args .bytes))) (counted n) _ (found k) (c .listen .ensures)
 
 returns : tie.Need-returns
-returns c = c .before .bound-in .ensures
-
-array-borrow-prefix-room-2 : tie.Need-array-borrow-prefix-room-2
-array-borrow-prefix-room-2 c = omega arith
-
-slice-aggregate-bound-in-2 : tie.Need-slice-aggregate-bound-in-2
-slice-aggregate-bound-in-2 c = sym (length-take-le _ _ (omega arith))
-
-bound-in-requires-2 : tie.Need-bound-in-requires-2
-bound-in-requires-2 c κs = length-take-le _ _ (omega arith) ∙ c .before .before .before .cell-count .ensures .0
+returns c = let n = c .before .before .before in answered-none (cellsIn (now (n .before .before .args .bytes))) (counted n) (sym (c .before .before .of-len .ensures .0) ∙ c .enum-told .given .1)
 
 returns-2 : tie.Need-returns-2
-returns-2 c = c .before .bound-in2 .ensures
-
-array-borrow-prefix-room-3 : tie.Need-array-borrow-prefix-room-3
-array-borrow-prefix-room-3 c = omega (arith, c .before .before .cell-count .ensures .1)
-
-slice-aggregate-bound-in-3 : tie.Need-slice-aggregate-bound-in-3
-slice-aggregate-bound-in-3 c = sym (length-take-le _ _ (omega (arith, c .before .before .before .cell-count .ensures .1)))
-
-bound-in-requires-3 : tie.Need-bound-in-requires-3
-bound-in-requires-3 c κs = length-take-le _ _ (omega (arith, c .before .before .before .cell-count .ensures .1)) ∙ c .before .before .before .cell-count .ensures .0
-
-returns-3 : tie.Need-returns-3
-returns-3 c = c .before .bound-in3 .ensures
+returns-2 c = let l = c .before in let k = l .before .before in let n = k .before .before .before in
+    c .answer .ensures ∙ answered-heard (cellsIn (now (n .before .before .args .bytes))) (counted n) _ (found k) (l .listen .ensures)
 
 pub bound-spec : {M : Type 1} → statement M
 bound-spec =
     tie.close
     (tie.spec
-    mul-cell-count
     cell-count-requires
-    array-borrow-prefix-room
-    slice-aggregate-bound-in
-    bound-in-requires
+    of-len-requires
+    enum-told
+    enum-known-kind
+    listen-requires
+    answer-requires
     returns
-    array-borrow-prefix-room-2
-    slice-aggregate-bound-in-2
-    bound-in-requires-2
-    returns-2
-    array-borrow-prefix-room-3
-    slice-aggregate-bound-in-3
-    bound-in-requires-3
-    returns-3)
+    returns-2)
