@@ -2,8 +2,8 @@
 -- Example: `answered-bound xs e P long : B ≡ blockBound P xs`, with e : boundAnswer xs ≡ Bound B and long : length xs ≡ 2 ^ P.
 use mathlib.Core.Path.{_≡_, refl, sym, _∙_, ap}
 use mathlib.Core.Bool.{Bool, true, false}
-use mathlib.Core.List.{List, [], _∷_}
-use Prim.Native.Nat.{ℕ, zero, suc, _+_, _*_, _^_, _≤_, _<_}
+use mathlib.Core.List.{List, []}
+use Prim.Native.Nat.{ℕ, zero, suc, _+_, _^_, _≤_, _<_}
 use native.Mathlib.Nat.{mul-le-mul, mul-le-mul-right}
 use native.Mathlib.Omega.{arith}
 use borrow.Author.Tests.{le-ltb, ltb-false, ne-eqb}
@@ -16,7 +16,6 @@ use Rattle.kind.specs.declared.BlockKind.{BlockKind}
 use Rattle.kind.specs.declared.KindFound.the-variants.{Found, None}
 use Rattle.kind.specs.BlockKinds.{SCALE, exponent, kindOf}
 use Rattle.kind.specs.Loudness.{LEAST-SAMPLE, LARGEST-SAMPLE, LOUDEST-SAMPLE}
-use Rattle.refusal.specs.declared.Refusal.{Refusal}
 use Rattle.refusal.specs.declared.Refusal.the-variants.{Length, Loud}
 use Rattle.block.specs.declared.BlockVerdict.{BlockVerdict}
 use Rattle.block.specs.declared.BlockVerdict.the-variants.{Taken, Refused as BlockRefused}

@@ -1,6 +1,6 @@
 -- Cells gone through one by one: none before cell i is loud, and the largest magnitude so far and that of the cells that are left are together that of all.
 -- Example: `going-all g h (omega arith) refl : Listened xs heard`, with g : Going xs (heard .largest) i and h : length xs ≤ i.
-use mathlib.Core.Path.{_≡_, sym, _∙_, ap}
+use mathlib.Core.Path.{_≡_, _∙_}
 use mathlib.Core.Bool.{Bool, true, false}
 use mathlib.Core.List.{List}
 use Prim.Native.Nat.{ℕ, _+_, _≤_, _<_, max}

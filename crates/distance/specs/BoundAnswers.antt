@@ -8,7 +8,7 @@ use Rattle.kind.specs.BlockKinds.{exponent}
 use Rattle.refusal.specs.RefusalTable.{number, place}
 use Rattle.block.specs.declared.BlockVerdict.{BlockVerdict}
 use Rattle.block.specs.declared.BlockVerdict.the-variants.{Taken, Refused as BlockRefused}
-use Rattle.block.specs.Tests.{testedSamples}
+use Rattle.block.specs.Tests.{firstLoud, misfit, tested, testedSamples}
 use Rattle.block.specs.TestTable.{firstGiven, refusalRows}
 use Rattle.spectrum.specs.Distance.{blockBound, bound, largestMagnitude}
 use Rattle.distance.specs.declared.BoundAnswer.{BoundAnswer}
@@ -20,6 +20,7 @@ boundTo xs (Taken kind) = Bound (blockBound (kind .p) xs)
 boundTo xs (BlockRefused refusal) = Refused refusal
 
 unfoldable pub boundAnswer : List ℤ → BoundAnswer
+unfolding tested bound largestMagnitude
 boundAnswer xs = boundTo xs (testedSamples xs)
 
 -- ---- in the papers' numbers
@@ -31,5 +32,5 @@ boundAnswerNumbers (Refused refusal) = number refusal ∷ place refusal ∷ []
 
 -- the rows of refused input for forward, of samples from -32,768 to 32,767; where none is given, the bound at scale 32,768, with M and P of the cells
 unfoldable pub boundNumbers : List ℤ → List ℕ
-unfolding firstGiven
+unfolding firstGiven misfit firstLoud exponent bound largestMagnitude
 boundNumbers xs = firstGiven (refusalRows (negℤ (pos 32768)) (pos 32767) [] xs) (bound 32768 (largestMagnitude xs) (exponent 10 (length xs)))

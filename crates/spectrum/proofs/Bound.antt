@@ -1,7 +1,7 @@
 -- The bound grows with M and falls as the scale grows, since both quotients are rounded up, and a / b rounded up is the least c with a ≤ c b.
 -- Example: `bound-grows 32768 q-positive M N M≤N P : bound 32768 M P ≤ bound 32768 N P`.
 use mathlib.Core.Path.{_≡_, refl}
-use Prim.Native.Nat.{ℕ, zero, suc, _+_, _*_, _-_, _/_, _%_, _^_, _≤_, _<_}
+use Prim.Native.Nat.{ℕ, zero, suc, _+_, _*_, _-_, _^_, _≤_, _<_}
 use native.Mathlib.Nat.{div-add-mod', le-trans, mod-lt, mul-le-mul-left, mul-le-mul-right, div-lt-iff-lt-mul}
 use native.Mathlib.Omega.{arith}
 use lib.Pow.{pow-pos}

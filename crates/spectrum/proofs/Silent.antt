@@ -2,7 +2,7 @@
 -- Example: `forward-silent 10 xs none v : cell (forward 10 xs) v ≡ pos 0`, with none : largestMagnitude xs ≡ 0.
 use mathlib.Core.Path.{_≡_, refl, sym, _∙_, ap, ap₂}
 use mathlib.Core.List.{List, [], _∷_}
-use Prim.Native.Nat.{ℕ, zero, suc, _+_, _≤_}
+use Prim.Native.Nat.{ℕ, zero, suc, _≤_}
 use native.Mathlib.Omega.{arith}
 use lib.IntN.{ℤ, pos, negsuc, negℤ, natAbs}
 use Rattle.ints.specs.Cells.{cell, negated}

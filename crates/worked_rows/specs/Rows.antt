@@ -1,14 +1,20 @@
 -- Document 01, Samples worked by hand: those with a star, as rows of one table; the third is as document 02, Item 1 amends it. After them two more for that
--- item, some fine cosines, worked by the rule of document 01, Cosines, apart from these definitions, and searches by document 02, Item 2. That every row holds
--- is proved in proofs/RowsHold.antt.
+-- item, some fine cosines, worked by the rule of document 01, Cosines, apart from these definitions, searches by document 02, Item 2, and bounds by its Item 6.
+-- That every row holds is proved in proofs/RowsHold.antt.
 use mathlib.Core.Path.{_≡_}
+use mathlib.Core.Bool.{cond}
 use mathlib.Core.List.{List, [], _∷_, _++_, map}
+use Prim.Native.Nat.{suc}
+use lib.Dec.{eqb}
 use lib.IntN.{ℤ, pos, negℤ, _*ℤ_}
 use lib.ListN.{take}
 use Rattle.ints.specs.Quotient.{rounded}
+use Rattle.ints.specs.Tabulate.{tabulate}
 use Rattle.kind.specs.BlockKinds.{SCALE, SCALE-DIGITS}
 use Rattle.cosine.specs.Cosine.{fine, quarterTable}
 use Rattle.spectrum.specs.Spectrum.{forward, backward}
+use Rattle.spectrum.specs.Distance.{bound, largestMagnitude}
+use Rattle.distance.specs.BoundAnswers.{boundNumbers}
 use Rattle.search.specs.SearchAnswers.{nearestNumbers, strongestNumbers}
 
 -- what a definition gives, and what the papers say that it gives
@@ -20,8 +26,12 @@ pub record Row : Type 0 where
 abbrev powers : List ℤ
 powers = pos 5 ∷ pos 9 ∷ pos 9 ∷ pos 2 ∷ pos 9 ∷ []
 
+-- 1,024 samples of 7, but for a single one of -100
+abbrev cake : List ℤ
+cake = tabulate 1024 (λ t. cond (eqb t 700) (negℤ (pos 100)) (pos 7))
+
 unfoldable pub rows : List Row
-unfolding rounded fine quarterTable forward backward strongestNumbers nearestNumbers
+unfolding rounded fine quarterTable forward backward strongestNumbers nearestNumbers tabulate bound largestMagnitude boundNumbers
 rows =
     -- T at 0, 64, 128, 192, 256
     record {
@@ -66,6 +76,21 @@ rows =
     ∷ record {
       given = map pos (strongestNumbers powers 5 4 ++ strongestNumbers powers 0 5 ++ strongestNumbers powers 6 5 ++ strongestNumbers powers 3 1 ++ nearestNumbers powers 5 (pos 9) ++ strongestNumbers (take 4 powers) 9 0);
       said = map pos (4 ∷ 5 ∷ 4 ∷ 5 ∷ 4 ∷ 6 ∷ 4 ∷ 3 ∷ 4 ∷ 5 ∷ 1 ∷ 0 ∷ []);
+    }
+    -- document 02, Item 6: for M = 100 and P = 10 the bound is 2,083, of a block too whose one sample of that magnitude is -100
+    ∷ record { given = map pos (bound SCALE 100 10 ∷ boundNumbers cake); said = pos 2083 ∷ pos 2083 ∷ [] }
+    -- the bound for M = 100, and for M = 0, at P = 1 to 10
+    ∷ record { given = map pos (tabulate 10 (λ j. bound SCALE 100 (suc j))); said = map pos (0 ∷ 0 ∷ 2 ∷ 7 ∷ 20 ∷ 52 ∷ 132 ∷ 332 ∷ 832 ∷ 2083 ∷ []) }
+    ∷ record { given = map pos (tabulate 10 (λ j. bound SCALE 0 (suc j))); said = map pos (0 ∷ 0 ∷ 1 ∷ 4 ∷ 11 ∷ 29 ∷ 74 ∷ 186 ∷ 466 ∷ 1166 ∷ []) }
+    -- M of {3, -7, 5}, and of {-32768, 32767}
+    ∷ record {
+      given = map pos (largestMagnitude (pos 3 ∷ negℤ (pos 7) ∷ pos 5 ∷ []) ∷ largestMagnitude (negℤ (pos 32768) ∷ pos 32767 ∷ []) ∷ []);
+      said = pos 7 ∷ pos 32768 ∷ [];
+    }
+    -- 1 for three cells, loud or not, and 3 for a loud one of four
+    ∷ record {
+      given = map pos (boundNumbers (pos 40000 ∷ pos 1 ∷ pos 2 ∷ []) ++ boundNumbers (pos 1 ∷ pos 2 ∷ pos 32768 ∷ negℤ (pos 40000) ∷ []));
+      said = map pos (1 ∷ 0 ∷ 3 ∷ 2 ∷ []);
     }
     ∷ []
 

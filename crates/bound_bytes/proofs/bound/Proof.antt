@@ -1,5 +1,6 @@
 -- `bound` is right because it counts the cells that the bytes spell, refuses a number that no block has, and then answers by what was heard of them.
 use mathlib.Core.Path.{_≡_, sym, _∙_}
+use native.Mathlib.Omega.{arith}
 use lib.ListN.{length}
 use denote.Ref.{now}
 use Rattle.kind.specs.BlockKinds.{kindOf}
@@ -31,7 +32,7 @@ enum-known-kind : tie.Need-enum-known-kind
 enum-known-kind c = c .match .keys2
 
 listen-requires : tie.Need-listen-requires
-listen-requires c κs = counted (c .before .before .before .before)
+listen-requires c κs = omega (arith, counted (c .before .before .before .before))
 
 answer-requires : tie.Need-answer-requires
 answer-requires c κs = let k = c .before .before in let n = k .before .before .before in answered-can (cellsIn (now (n .before .before .args .bytes))) (counted n) _ (found k) (c .listen .ensures)

@@ -1,6 +1,6 @@
 -- `answer` is right because samples that end before the cells do are followed by a loud one.
 use borrow.Author.Tests.{le-ltb, lt-ltb}
-use mathlib.Core.Path.{_≡_, refl, sym, _∙_, ap}
+use mathlib.Core.Path.{_≡_, refl}
 use Prim.Native.Nat.{ℕ, _≤_, _<_}
 use native.Mathlib.Omega.{arith}
 use Rattle.kind.specs.BlockKinds.{SCALE}
