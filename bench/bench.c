@@ -310,7 +310,6 @@ static void call_only(const char *direction, const char *side, size_t p, long ti
 /* One direction for all lengths. */
 static void time_direction(int forward)
 {
-    static const double E[] = {0, 0, 0, 5, 22, 72, 213, 598, 1624, 4317, 11306};    /* the papers' bound, for P from 0 */
     double before = 0;
     for (size_t p = 1; p <= 10; p++) {
         struct contender list[4] = {
@@ -324,7 +323,8 @@ static void time_direction(int forward)
         for (int i = 0; i < 4; i++)
             list[i].call();
         expect_same(warm_bytes, warm_cells, n);
-        expect_near(forward ? E[p] + 0.01 : 25);    /* backward has no bound in the papers; 25 is far above what is seen */
+        /* backward has no bound in the papers; 25 is far above what is seen */
+        expect_near(forward ? (double)(rule_bound(fresh_cells, n) / 256) + 0.01 : 25);
 
         measure(list, 3 + FFTW);
         printf("| %zu | %zu |", p, n);
@@ -611,7 +611,7 @@ static uint64_t same_answer(const struct contender *list, size_t before)
         if (i == 0)
             first = answer;
         if (answer != first || answer % 256 != 0)
-            fail("the archive's search and the one in C differ");
+            fail("the archive and the rule in C differ");
     }
     return first;
 }
@@ -750,6 +750,53 @@ static void time_saves(void)
     }
 }
 
+/* Bounds: all read the same cells. Each call takes the next of a few blocks. */
+
+static int64_t sample_cells[LISTS][LARGEST];
+
+static void archive_bound(void)
+{
+    answer = hartley_bound((const uint8_t *)sample_cells[next_list()], CELL * n);
+}
+
+static void rule_c_bound(void)
+{
+    answer = rule_bound(sample_cells[next_list()], n);
+}
+
+static void plain_c_bound(void)
+{
+    answer = rule_bound_plain(sample_cells[next_list()], n);
+}
+
+/* Blocks of random samples of 2^p cells. */
+static void time_bound(size_t p)
+{
+    struct contender list[4] = {
+        {.call = archive_bound},
+        {.call = archive_bound},
+        {.call = rule_c_bound},
+        {.call = plain_c_bound},
+    };
+    n = (size_t)1 << p;
+    for (size_t i = 0; i < LISTS; i++)
+        for (size_t t = 0; t < n; t++)
+            sample_cells[i][t] = (int64_t)noise() - 32768;
+    for (size_t i = 0; i < LISTS; i++)
+        same_answer(list, i);
+    printf("| %zu | %zu |", p, n);
+    time_four(list);
+}
+
+static void time_bounds(void)
+{
+    static const size_t ps[] = {3, 6, 10};
+    printf("\nBound, ns per call (best / median); plain is one in C, cell by cell:\n");
+    print_head(" P | N | archive | C | plain | archive/C | archive/plain | A/A | spread | growth |");
+    for (size_t i = 0; i < 3; i++)
+        time_bound(ps[i]);
+}
+
 /* Listings */
 
 static char trace_path[4096], text_path[2][4096];
@@ -857,8 +904,9 @@ int main(int count, char **words)
     time_checks();
     time_fetches();
     time_listings();
-    time_searches();    /* these two last, so that the random inputs of the others stay those of earlier runs */
+    time_searches();    /* these three last, so that the random inputs of the others stay those of earlier runs */
     time_saves();
+    time_bounds();
     printf("\nA/A, the same contender timed twice, was from %.2f to %.2f in this run.\n", lowest, highest);
     return 0;
 }

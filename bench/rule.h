@@ -1,7 +1,7 @@
 /*
- * The level rule, the search of powers, the trace check and the saving of a trace in C, written from the project's
- * papers and not from the engine, which is measured against them. Answers are packed as in hartley.h, so that both can
- * be compared.
+ * The level rule, its bound, the search of powers, the trace check and the saving of a trace in C, written from the
+ * project's papers and not from the engine, which is measured against them. Answers are packed as in hartley.h, so that
+ * both can be compared.
  */
 #ifndef RULE_H
 #define RULE_H
@@ -21,6 +21,11 @@ uint64_t rule_backward(int64_t *cells, size_t n);
 uint64_t rule_power(const int64_t *spectrum, size_t n, int64_t *powers, size_t lines);
 uint64_t rule_parts(const int64_t *spectrum, size_t n, int64_t *real, int64_t *imaginary, size_t lines);
 uint64_t rule_scaled(const int64_t *spectrum, size_t n, size_t line, double *real, double *imaginary);
+
+/* The bound of a block of n samples. It goes through the cells once and takes several at a time. The plain one answers
+   the same, but tests and takes cell by cell. */
+uint64_t rule_bound(const int64_t *cells, size_t n);
+uint64_t rule_bound_plain(const int64_t *cells, size_t n);
 
 /* The search of a list of so many powers. Strongest takes four lines at a time, nearest looks outwards from the chosen
    line. The scans find the same: they go through the band or the list line by line and keep the best. */

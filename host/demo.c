@@ -1,8 +1,9 @@
 /*
  * How a host in C uses the spectrum engine, and reads and saves traces. Start with mean_frequency, the first use below,
- * from end to end; nearest_frequency is another, and save_samples with fetch_samples a third. After them each entry is
- * called on tables of cases; its answer, and the cells and scaled lines of the blocks worked by hand, are shown and
- * compared. Saved traces are compared byte by byte. Ends with "demo: ok", or with what went wrong and exit status 1.
+ * from end to end; nearest_frequency is another, lines_beyond_bound a third, and save_samples with fetch_samples a
+ * fourth. After them each entry is called on tables of cases; its answer, and the cells and scaled lines of the blocks
+ * worked by hand, are shown and compared. Saved traces are compared byte by byte. Ends with "demo: ok", or with what
+ * went wrong and exit status 1.
  */
 #include "hartley.h"
 
@@ -102,6 +103,29 @@ static double nearest_frequency(const uint8_t *trace, size_t trace_bytes, size_t
     return nearest;
 }
 
+/* How many lines of the spectrum of block k of a trace are farther from 0 than the block's bound: the direct sum is not
+   0 there, and at any other line it may be. Shows the bound. Answers -1 where a call refuses. */
+static int lines_beyond_bound(const uint8_t *trace, size_t trace_bytes, size_t k)
+{
+    int64_t cells[HARTLEY_LARGEST_BLOCK];
+    uint64_t checked = hartley_check(trace, trace_bytes);
+    if (refused("check", checked))
+        return -1;
+    size_t n = (size_t)1 << hartley_p(checked), cells_bytes = n * HARTLEY_CELL_BYTES;
+    if (refused("fetch", hartley_fetch(trace, trace_bytes, k, (uint8_t *)cells, cells_bytes)))
+        return -1;
+    /* before forward, while the cells are still the samples */
+    uint64_t answer = hartley_bound((uint8_t *)cells, cells_bytes);
+    if (refused("bound", answer) || refused("forward", hartley_forward((uint8_t *)cells, cells_bytes)))
+        return -1;
+    int64_t bound = (int64_t)hartley_distance(answer);
+    int lines = 0;
+    for (size_t v = 0; v < n; v++)
+        lines += cells[v] < -bound || cells[v] > bound;
+    printf("block %zu: %d lines beyond the bound, %" PRId64 "\n", k, lines, bound);
+    return lines;
+}
+
 /* Saves samples, 2^p to a block, and shows how many bytes the trace has. HARTLEY_LONGEST_TRACE bytes are lent for it,
    which are never too few. Answers how many of them a host writes to its file, or 0 where the call refuses. */
 static size_t save_samples(size_t rate, size_t p, const int64_t *samples, size_t count, uint8_t *trace)
@@ -166,15 +190,66 @@ static const struct worked {
      {{-512, LENT}, {-362.0625, 362.0625}, {0, 512}, {362.0625, 362.0625}, {512, LENT}}},
 };
 
-/* Blocks at the bounds and beyond: cells 1, 2, 3 and so on, but the one at the place. A number of 0 is accepted. The
-   outputs are the real and the imaginary parts, or the powers. */
+/* Bounds of blocks whose cells are all the same, but the one at the place: the refusal and its place, or 0 and the
+   bound. */
 static const struct bound {
+    const char *what;
+    size_t bytes;
+    int64_t others;
+    size_t at;
+    int64_t cell;
+    uint64_t number, place_or_bound;
+} bounds[] = {
+    {"bound, 1024 cells, the loudest is -100", 1024 * CELL, 99, 700, -100, 0, 2083},
+    {"bound, 1024 cells, the loudest is 100", 1024 * CELL, -99, 0, 100, 0, 2083},
+    {"bound, 2 cells", 2 * CELL, 1, 1, -100, 0, 0},
+    {"bound, 2 cells of -32768", 2 * CELL, -32768, 0, -32768, 0, 0},
+    {"bound, 4 cells", 4 * CELL, 1, 3, 100, 0, 0},
+    {"bound, 4 cells of -32768", 4 * CELL, -32768, 0, -32768, 0, 0},
+    /* half the length times 8,192 is 32,768, and what is more is rounded up */
+    {"bound, 8 cells, the loudest is -1", 8 * CELL, 0, 7, -1, 0, 2},
+    {"bound, 8 cells, the loudest is 8192", 8 * CELL, -8191, 5, 8192, 0, 2},
+    {"bound, 8 cells, the loudest is -8193", 8 * CELL, 8192, 5, -8193, 0, 3},
+    /* M is 0, and every line too */
+    {"bound, 2 cells of 0", 2 * CELL, 0, 0, 0, 0, 0},
+    {"bound, 8 cells of 0", 8 * CELL, 0, 0, 0, 0, 1},
+    {"bound, 1024 cells of 0", 1024 * CELL, 0, 0, 0, 0, 1166},
+    /* as loud as a block can be: no bound is larger */
+    {"bound, 8 cells, the loudest is -32768", 8 * CELL, 32767, 0, -32768, 0, 5},
+    {"bound, 16 cells, the loudest is 32767", 16 * CELL, 1, 15, 32767, 0, 22},
+    {"bound, 32 cells, the loudest is -32768", 32 * CELL, 1, 31, -32768, 0, 72},
+    {"bound, 64 cells, the loudest is 32767", 64 * CELL, 1, 63, 32767, 0, 213},
+    {"bound, 128 cells, the loudest is -32768", 128 * CELL, 1, 64, -32768, 0, 598},
+    {"bound, 256 cells, the loudest is 32767", 256 * CELL, 1, 128, 32767, 0, 1624},
+    {"bound, 512 cells, the loudest is -32768", 512 * CELL, 1, 256, -32768, 0, 4317},
+    {"bound, 1024 cells, the loudest is -32768", 1024 * CELL, 32767, 512, -32768, 0, 11306},
+    {"bound, 0 cells", 0, 1, 0, 1, HARTLEY_LENGTH, 0},
+    {"bound, 1 cell", CELL, 1, 0, 1, HARTLEY_LENGTH, 0},
+    {"bound, 3 cells", 3 * CELL, 1, 0, 1, HARTLEY_LENGTH, 0},
+    {"bound, 3 cells, cell 2 is 32768", 3 * CELL, 1, 2, 32768, HARTLEY_LENGTH, 0},
+    {"bound, 2048 cells", 2048 * CELL, 1, 0, 1, HARTLEY_LENGTH, 0},
+    {"bound, 2 cells less a byte", 2 * CELL - 1, 1, 0, 1, HARTLEY_LENGTH, 0},
+    {"bound, 8 cells and a byte", 8 * CELL + 1, 1, 0, 1, HARTLEY_LENGTH, 0},
+    {"bound, 8 cells and 7 bytes, cell 5 is 32768", 8 * CELL + 7, 1, 5, 32768, HARTLEY_LENGTH, 0},
+    {"bound, 1024 cells and a byte", 1024 * CELL + 1, 1, 0, 1, HARTLEY_LENGTH, 0},
+    {"bound, cell 5 is 32768", 8 * CELL, 1, 5, 32768, HARTLEY_LOUD, 5},
+    {"bound, cell 7 is -32769", 8 * CELL, 1, 7, -32769, HARTLEY_LOUD, 7},
+    {"bound, all cells but cell 0 are 32768", 8 * CELL, 32768, 0, 1, HARTLEY_LOUD, 1},
+    {"bound, cell 1 of 2 is 32768", 2 * CELL, 1, 1, 32768, HARTLEY_LOUD, 1},
+    {"bound, cell 1023 is -32769", 1024 * CELL, 1, 1023, -32769, HARTLEY_LOUD, 1023},
+    {"bound, cell 600 is 2^63 - 1", 1024 * CELL, 1, 600, INT64_MAX, HARTLEY_LOUD, 600},
+    {"bound, cell 0 is -2^63", 8 * CELL, 1, 0, INT64_MIN, HARTLEY_LOUD, 0},
+};
+
+/* Blocks at the limits and beyond: cells 1, 2, 3 and so on, but the one at the place. A number of 0 is accepted. The
+   outputs are the real and the imaginary parts, or the powers. */
+static const struct limit {
     const char *what;
     enum entry entry;
     size_t bytes, output_bytes[2], place;
     int64_t cell;
     uint64_t number;
-} bounds[] = {
+} limits[] = {
     {"forward, 0 cells", FORWARD, 0, {0}, 0, 1, HARTLEY_LENGTH},
     {"forward, 1 cell", FORWARD, CELL, {0}, 0, 1, HARTLEY_LENGTH},
     {"forward, 3 cells", FORWARD, 3 * CELL, {0}, 0, 1, HARTLEY_LENGTH},
@@ -209,13 +284,13 @@ static const struct bound {
     {"power, cell 2 is 2^28", POWER, 4 * CELL, {3 * CELL}, 2, LOUDEST, 0},
 };
 
-/* Scaled lines at the bounds and beyond, of such blocks: the refusal and its place, or 0 and the case. */
-static const struct line_bound {
+/* Scaled lines at the limits and beyond, of such blocks: the refusal and its place, or 0 and the case. */
+static const struct line_limit {
     const char *what;
     size_t bytes, line, at;
     int64_t cell;
     uint64_t number, place_or_case;
-} line_bounds[] = {
+} line_limits[] = {
     {"scaled, line 9 of 3 cells", 3 * CELL, 9, 0, 1, HARTLEY_LENGTH, 0},
     {"scaled, line 0 of 2 cells less a byte", 2 * CELL - 1, 0, 0, 1, HARTLEY_LENGTH, 0},
     {"scaled, line 9, cell 2 is 2^28 + 1", 4 * CELL, 9, 2, LOUDEST + 1, HARTLEY_LOUD, 2},
@@ -478,8 +553,17 @@ static uint8_t *new_block(size_t bytes, size_t place, int64_t cell)
     return list;
 }
 
+/* A list of so many bytes with all cells the same, but the one at the place. */
+static uint8_t *new_even_block(size_t bytes, int64_t others, size_t place, int64_t cell)
+{
+    uint8_t *list = new_list(bytes);
+    for (size_t t = 0; CELL * (t + 1) <= bytes; t++)
+        put_cell(list + CELL * t, t == place ? cell : others);
+    return list;
+}
+
 /* Shows an answer and compares it: the number of the refusal, or 0, and the refusal's place. Whatever the answer is,
-   hartley_used reads the same bytes of it as hartley_place. */
+   hartley_used and hartley_distance read the same bytes of it as hartley_place. */
 static void expect(const char *what, uint64_t answer, uint64_t number, uint64_t place)
 {
     if (hartley_number(answer) == 0)
@@ -488,7 +572,7 @@ static void expect(const char *what, uint64_t answer, uint64_t number, uint64_t 
         printf("%s: refused %" PRIu64 " at %" PRIu64 "\n", what, hartley_number(answer), hartley_place(answer));
     if (hartley_number(answer) != number || (number != 0 && hartley_place(answer) != place))
         fail("another answer was expected");
-    if (hartley_used(answer) != hartley_place(answer))
+    if (hartley_used(answer) != hartley_place(answer) || hartley_distance(answer) != hartley_place(answer))
         fail("other bytes of an answer were expected");
 }
 
@@ -568,9 +652,28 @@ static uint64_t call(enum entry entry, struct lent cells, struct lent first, str
     }
 }
 
-/* A block at the bounds or beyond. Where it is refused, all that was lent is left as it was. What parts and power read
-   always is. */
+/* The bound of a block, or a refusal. The block is left as it was. Forward then takes it, or answers the same refusal;
+   and where all samples are 0 it leaves them so. */
 static void show_bound(const struct bound *row)
+{
+    struct lent cells = lend(new_even_block(row->bytes, row->others, row->at, row->cell), row->bytes);
+    uint64_t answer = hartley_bound(cells.list, cells.bytes);
+    expect(row->what, answer, row->number, row->place_or_bound);
+    if (row->number == 0) {
+        printf("  bound %" PRIu64 "\n", hartley_distance(answer));
+        if (hartley_distance(answer) != row->place_or_bound)
+            fail("another bound was expected");
+    }
+    struct lent samples = lend(copy_of(cells.list, cells.bytes), cells.bytes);
+    take_back(cells, 1);
+    if (hartley_forward(samples.list, samples.bytes) != (row->number == 0 ? 0 : answer))
+        fail("another answer than that of forward");
+    take_back(samples, row->number != 0 || (row->others == 0 && row->cell == 0));
+}
+
+/* A block at the limits or beyond. Where it is refused, all that was lent is left as it was. What parts and power read
+   always is. */
+static void show_limit(const struct limit *row)
 {
     const size_t *output_bytes = row->output_bytes;
     struct lent cells = lend(new_block(row->bytes, row->place, row->cell), row->bytes);
@@ -583,8 +686,8 @@ static void show_bound(const struct bound *row)
     take_back(second, answer != 0);
 }
 
-/* A scaled line at the bounds or beyond. Where it is refused, both doubles are left as they were. */
-static void show_line_bound(const struct line_bound *row)
+/* A scaled line at the limits or beyond. Where it is refused, both doubles are left as they were. */
+static void show_line_limit(const struct line_limit *row)
 {
     struct lent cells = lend(new_block(row->bytes, row->at, row->cell), row->bytes);
     double real = LENT, imaginary = LENT;
@@ -786,7 +889,8 @@ static void show_saving(void)
         fail("a refusal was expected");
 }
 
-/* The uses from end to end, of the trace and of the trace without its last byte; and of a power that no line has. */
+/* The uses from end to end, of the trace and of the trace without its last byte; of a power that no line has; and of a
+   block that the trace has not. */
 static void show_uses(void)
 {
     if (mean_frequency(biscuit, sizeof biscuit) != 1500)
@@ -799,6 +903,10 @@ static void show_uses(void)
         fail("another frequency was expected");
     if (nearest_frequency(biscuit, sizeof biscuit, 0, 2000, 1000000) != -1)
         fail("no frequency was expected");
+    if (lines_beyond_bound(biscuit, sizeof biscuit, 0) != 2 || lines_beyond_bound(biscuit, sizeof biscuit, 1) != 3)
+        fail("another number of lines was expected");
+    if (lines_beyond_bound(biscuit, sizeof biscuit, 2) != -1)
+        fail("a refusal was expected");
 }
 
 int main(void)
@@ -810,8 +918,10 @@ int main(void)
         show_worked(&worked[i]);
     for (size_t i = 0; i < COUNT(bounds); i++)
         show_bound(&bounds[i]);
-    for (size_t i = 0; i < COUNT(line_bounds); i++)
-        show_line_bound(&line_bounds[i]);
+    for (size_t i = 0; i < COUNT(limits); i++)
+        show_limit(&limits[i]);
+    for (size_t i = 0; i < COUNT(line_limits); i++)
+        show_line_limit(&line_limits[i]);
     for (size_t i = 0; i < COUNT(bands); i++)
         show_band(&bands[i]);
     for (size_t i = 0; i < COUNT(choices); i++)

@@ -14,7 +14,8 @@
  * refuses, all that is lent is as it was.
  *
  * Answers: each is one number, and hartley_number reads from it whether the call has refused. Test hartley_number and
- * not the answer: an accepted check, fetch, save or scaled line is not 0, nor is a line that was found.
+ * not the answer: an accepted check, fetch, save or scaled line is not 0, nor is a line that was found, nor a bound
+ * where P is above 2.
  *
  * Threads: calls are safe from several threads at once. Until a call has answered, no other thread touches what it is
  * lent to write, or writes what it is lent to read.
@@ -28,7 +29,8 @@
  * host that asked for 13 asks for the three: where it used the name the compiler says so, where it wrote the number
  * only the version does. Which traces are accepted, all places and every other answer are as they were in version 2.
  * Version 4 has one call more, hartley_save, and one that reads its answer, hartley_used; all of version 3 is as it
- * was.
+ * was. Version 5 has one call more, hartley_bound, and one that reads its answer, hartley_distance; all of version 4 is
+ * as it was, and forward keeps within the bound, which is at most what it kept within before.
  */
 #ifndef HARTLEY_H
 #define HARTLEY_H
@@ -37,7 +39,7 @@
 #include <stdint.h>
 
 /* Counts one up with every new call, and every change to a signature, an answer or a refusal. */
-#define HARTLEY_VERSION 4
+#define HARTLEY_VERSION 5
 /* The bytes of a cell. */
 #define HARTLEY_CELL_BYTES 8
 /* The largest block, in cells. Parts and powers have HARTLEY_LARGEST_BLOCK / 2 + 1 at most. */
@@ -66,8 +68,8 @@ enum hartley_refusal {
                             bytes is no multiple of eight; place 0 */
     HARTLEY_MISFIT = 2,  /* fetch: a lent output not N cells; parts, power: not N/2 + 1; all three: its count of bytes
                             is no multiple of eight; save: fewer lent bytes than the trace has; place 0 */
-    HARTLEY_LOUD = 3,    /* forward, save: a cell outside -32,768 to 32,767; any call that takes a spectrum: outside
-                            +-2^28; place the first such cell */
+    HARTLEY_LOUD = 3,    /* forward, bound, save: a cell outside -32,768 to 32,767; any call that takes a spectrum:
+                            outside +-2^28; place the first such cell */
     HARTLEY_LINE = 4,    /* a line above N/2: that of scaled, the chosen one of nearest, low of strongest, or else high;
                             place that line; then low of strongest above high; place low */
     HARTLEY_LONG = 10,   /* trace above 65,536 bytes, be it lent or to be saved; place 0 */
@@ -93,10 +95,18 @@ enum hartley_scaled_line {
 /* The version of the archive, to be compared with HARTLEY_VERSION. */
 uint64_t hartley_version(void);
 
-/* The forward spectrum of a block of N samples, in place of the samples. Answers 0, or a refusal: 1 or 3. The negative
-   of a block has the negative spectrum, line by line, where it is not refused: -32,768 has no negative that is
-   taken. */
+/* The forward spectrum of a block of N samples, in place of the samples. No line is farther from the direct sum than
+   hartley_bound answers for the samples; ask for the bound first, since forward replaces them. Answers 0, or a
+   refusal: 1 or 3. The negative of a block has the negative spectrum, line by line, where it is not refused: -32,768
+   has no negative that is taken. */
 uint64_t hartley_forward(uint8_t *cells, size_t cells_bytes);
+
+/* The bound of a block of N = 2^P samples: no line of its forward spectrum is farther from the direct Hartley sum, over
+   fine cosines, of the samples. M being the largest magnitude in the block, the bound is 0 for P up to 2; then 5/2 of
+   the one before, rounded up, plus half the length times M over 32,768, rounded up, plus 1. So it is 2,083 for M = 100
+   and P = 10, and at most 11,306. Where M is 0 every line is 0. The call takes and refuses the blocks that
+   hartley_forward takes and refuses, and nothing lent changes. Answers the bound, or a refusal: 1 or 3. */
+uint64_t hartley_bound(const uint8_t *cells, size_t cells_bytes);
 
 /* The block of a spectrum, in place of the spectrum. Answers 0, or a refusal: 1 or 3. The negative of a spectrum gets
    the same answer and the negative block. */
@@ -148,6 +158,7 @@ uint64_t hartley_save(size_t rate, size_t p, const uint8_t *cells, size_t cells_
  *
  *     the answer of                            byte 0    byte 1    bytes 2, 3    bytes 4 to 7
  *     forward, backward, parts, power, done    0         0         0             0
+ *     bound, done                              0         bound, in seven bytes
  *     scaled, done                             0         case      0             0
  *     strongest, nearest, a line found         0         1         line          0
  *     nearest, none found                      0         0         0             0
@@ -166,6 +177,9 @@ uint64_t hartley_number(uint64_t answer);
    asked for. Of the place of 4 and 16, which the host gave itself, the highest of eight bytes is left off where it is
    not 0. Every other place is whole. */
 uint64_t hartley_place(uint64_t answer);
+
+/* Of an accepted bound, bytes 1 to 7: the bound. */
+uint64_t hartley_distance(uint64_t answer);
 
 /* Of an accepted scaled line, byte 1: HARTLEY_MEAN, HARTLEY_LAST or HARTLEY_PAIR. */
 uint64_t hartley_case(uint64_t answer);

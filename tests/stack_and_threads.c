@@ -28,12 +28,12 @@ enum { THREADS = 4, ROUNDS = 200, BLOCKS_TRIED = 50 };
 
 /* Those up to SAVE can refuse. */
 enum entry {
-    FORWARD, BACKWARD, PARTS, POWER, SCALED, STRONGEST, NEAREST, CHECK, FETCH, SAVE,
-    NUMBER, PLACE, CASE, FOUND, LINE, RATE, P, BLOCKS, USED, VERSION
+    FORWARD, BOUND, BACKWARD, PARTS, POWER, SCALED, STRONGEST, NEAREST, CHECK, FETCH, SAVE,
+    NUMBER, PLACE, DISTANCE, CASE, FOUND, LINE, RATE, P, BLOCKS, USED, VERSION
 };
 static const char *const names[] = {
-    "forward", "backward", "parts", "power", "scaled", "strongest", "nearest", "check", "fetch", "save",
-    "number", "place", "case", "found", "line", "rate", "p", "blocks", "used", "version"
+    "forward", "bound", "backward", "parts", "power", "scaled", "strongest", "nearest", "check", "fetch", "save",
+    "number", "place", "distance", "case", "found", "line", "rate", "p", "blocks", "used", "version"
 };
 
 static struct trace { uint8_t *bytes; size_t count; uint64_t sum; } *traces;
@@ -83,6 +83,8 @@ static uint64_t called(void)
     switch (lent.entry) {
     case FORWARD:
         return hartley_forward(given, given_bytes);
+    case BOUND:
+        return hartley_bound(given, given_bytes);
     case BACKWARD:
         return hartley_backward(given, given_bytes);
     case PARTS:
@@ -105,6 +107,8 @@ static uint64_t called(void)
         return hartley_number(answer);
     case PLACE:
         return hartley_place(answer);
+    case DISTANCE:
+        return hartley_distance(answer);
     case CASE:
         return hartley_case(answer);
     case FOUND:
@@ -314,7 +318,7 @@ static uint64_t with_save(uint64_t sum, uint64_t checked, const int64_t *block, 
     return with_bytes(sum, own, bytes);
 }
 
-/* A sum over all that check, fetch, save, forward, power and the searches answer and leave, for some blocks of a
+/* A sum over all that check, fetch, save, bound, forward, power and the searches answer and leave, for some blocks of a
    trace. */
 static uint64_t sum_of(const struct trace *trace)
 {
@@ -328,6 +332,8 @@ static uint64_t sum_of(const struct trace *trace)
         sum = 31 * sum + hartley_fetch(trace->bytes, trace->count, k, (uint8_t *)block, n * CELL);
         sum = with_cells(sum, block, n);
         sum = with_save(sum, checked, block, n);
+        sum = 31 * sum + hartley_bound((uint8_t *)block, n * CELL);
+        sum = with_cells(sum, block, n);
         sum = 31 * sum + hartley_forward((uint8_t *)block, n * CELL);
         sum = with_cells(sum, block, n);
         sum = 31 * sum + hartley_power((uint8_t *)block, n * CELL, (uint8_t *)powers, lines * CELL);

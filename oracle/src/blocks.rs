@@ -3,7 +3,7 @@
 use crate::cosines::{fine_cas, table_cosine, table_sine, TURN};
 use crate::refusal::{refuse_if, Refusal, LENGTH, LOUD};
 
-/// "E for P = 1 to 10"
+/// "E for P = 1 to 10"; document 02, Item 6, has them follow from its bound.
 pub const E: [u64; 10] = [0, 0, 5, 22, 72, 213, 598, 1_624, 4_317, 11_306];
 
 /// Refusal 1: "block is not 2 to 1,024 cells and a power of two".
@@ -25,7 +25,7 @@ pub fn test_samples(cells: &[i64]) -> Result<(), Refusal> {
     test_loudness(cells, -32_768, 32_767)
 }
 
-/// Refusal 3, "any call that takes a spectrum: outside ±2^28"; the bounds themselves pass.
+/// Refusal 3, "any call that takes a spectrum: outside ±2^28"; the limits themselves pass.
 pub fn test_spectrum(cells: &[i64]) -> Result<(), Refusal> {
     test_loudness(cells, -(1 << 28), 1 << 28)
 }

@@ -2,6 +2,7 @@
 
 use crate::blocks::{backward, forward, test_length};
 use crate::fourier::{parts, power};
+use crate::quiet::bound;
 use crate::refusal::{refuse_if, Refusal, LENGTH, MISFIT};
 use crate::saving::{save, test_head};
 use crate::scaled::{scaled, Scaled};
@@ -32,6 +33,11 @@ pub fn forward_bytes(lent: &mut [u8]) -> Result<(), Refusal> {
     let spectrum = forward(&cells_of(lent)?)?;
     replace(lent, &spectrum);
     Ok(())
+}
+
+/// The bound of a block on bytes (document 02, Item 6); nothing is lent to be written.
+pub fn bound_bytes(cells: &[u8]) -> Result<u64, Refusal> {
+    bound(&cells_of(cells)?)
 }
 
 /// Backward on bytes: it replaces "the cells of the lent block".

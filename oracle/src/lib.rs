@@ -7,6 +7,7 @@ mod cells;
 mod cosines;
 mod fourier;
 mod listing;
+mod quiet;
 mod refusal;
 mod saving;
 mod scaled;
@@ -15,12 +16,13 @@ mod trace;
 
 pub use blocks::{backward, direct, forward, halves, E};
 pub use cells::{
-    backward_bytes, fetch_bytes, forward_bytes, nearest_bytes, parts_bytes, power_bytes, save_bytes, scaled_bytes,
-    strongest_bytes,
+    backward_bytes, bound_bytes, fetch_bytes, forward_bytes, nearest_bytes, parts_bytes, power_bytes, save_bytes,
+    scaled_bytes, strongest_bytes,
 };
 pub use cosines::{fine_cosine, table_cosine};
 pub use fourier::{parts, power};
 pub use listing::listing;
+pub use quiet::{bound, bound_at, largest_magnitude};
 pub use refusal::Refusal;
 pub use saving::save;
 pub use scaled::{scaled, Fraction, Scaled};

@@ -1,4 +1,4 @@
-//! The samples of document 01, its refusals, and the bound E; and what document 02 amends.
+//! The samples of document 01, its refusals, and the distances E; and what document 02 amends.
 
 use oracle::*;
 use std::collections::BTreeMap;
@@ -202,13 +202,111 @@ fn direct_sums_worked_by_hand() {
 #[test]
 fn e_is_respected_and_line_0_is_the_sum() {
     for p in 1..=10 {
-        let bound = i128::from(E[p as usize - 1]) << 60;
+        let most = i128::from(E[p as usize - 1]) << 60;
         for block in blocks(p) {
             let spectrum = forward(&block).unwrap();
             for (line, sum) in spectrum.iter().zip(direct(&block)) {
-                assert!(((i128::from(*line) << 60) - sum).abs() <= bound);
+                assert!(((i128::from(*line) << 60) - sum).abs() <= most);
             }
             assert_eq!(spectrum[0], block.iter().sum::<i64>());
+        }
+    }
+}
+
+/// A block of n samples, all 0 but one.
+fn alone(n: usize, place: usize, sample: i64) -> Vec<i64> {
+    let mut block = vec![0; n];
+    block[place] = sample;
+    block
+}
+
+/// Document 02, Item 6, by hand for P from 3 on. At M = 100 and P = 10, for instance, 5/2 of 832 is 2,080, and 512 ×
+/// 100 over 32,768 is 1.6, so 2: with 1 that is 2,083. "the old figures follow from it": they are those of M = 32,768.
+#[test]
+fn bounds_worked_by_hand() {
+    let rows: [(u64, [u64; 8]); 9] = [
+        (0, [1, 4, 11, 29, 74, 186, 466, 1_166]),
+        (1, [2, 7, 20, 52, 132, 332, 832, 2_082]),
+        (64, [2, 7, 20, 52, 132, 332, 832, 2_082]),
+        (65, [2, 7, 20, 52, 132, 332, 832, 2_083]),
+        (100, [2, 7, 20, 52, 132, 332, 832, 2_083]),
+        (8_192, [2, 8, 25, 72, 197, 526, 1_380, 3_579]),
+        (8_193, [3, 12, 36, 100, 268, 704, 1_826, 4_695]),
+        (32_767, [5, 22, 72, 213, 598, 1_624, 4_317, 11_306]),
+        (32_768, [5, 22, 72, 213, 598, 1_624, 4_317, 11_306]),
+    ];
+    for (m, bounds) in rows {
+        for (i, its) in [0, 0].iter().chain(&bounds).enumerate() {
+            assert_eq!(bound_at(i as u32 + 1, m), *its, "M {m}, P {}", i + 1);
+        }
+    }
+    assert_eq!(E.to_vec(), (1..=10).map(|p| bound_at(p, 32_768)).collect::<Vec<u64>>());
+}
+
+/// "Let M be the largest magnitude in the block": by either sign, in any cell.
+#[test]
+fn largest_magnitudes() {
+    for (block, m) in [([0, 0], 0), ([3, -2], 3), ([2, -3], 3), ([-3, -2], 3), ([-32_768, 32_767], 32_768)] {
+        assert_eq!(largest_magnitude(&block), m);
+    }
+    for p in 1..=10 {
+        let n = 1 << p;
+        for place in 0..n {
+            assert_eq!(bound(&alone(n, place, 1)), Ok(bound_at(p, 1)));
+            assert_eq!(bound(&alone(n, place, -32_768)), Ok(bound_at(p, 32_768)));
+        }
+    }
+}
+
+/// "For M = 100 and P = 10 that is 2,083 instead of 11,306."
+#[test]
+fn bounds_of_blocks() {
+    for block in [vec![100; 1024], vec![-100; 1024], alone(1024, 0, 100), alone(1024, 1023, -100)] {
+        assert_eq!(bound(&block), Ok(2_083));
+    }
+    assert_eq!(bound(&[-32_768; 1024]), Ok(11_306));
+    assert_eq!(bound(&[32_767; 1024]), Ok(11_306));
+    assert_eq!(bound(&[-32_768, 32_767]), Ok(0));
+    assert_eq!(bound(&[-32_768; 4]), Ok(0));
+    assert_eq!(bound(&[0; 8]), Ok(1));
+    assert_eq!(bound(&[0, 0, 0, 0, 0, 0, 0, -1]), Ok(2));
+    assert_eq!(bound(&[8_192; 8]), Ok(2));
+    assert_eq!(bound(&[8_192, 0, 0, 0, -8_193, 0, 0, 0]), Ok(3));
+    assert_eq!(bound(&[0; 1024]), Ok(1_166));
+}
+
+/// "with forward's checks": 1, then 3 with its place.
+#[test]
+fn refused_bounds() {
+    for count in [0, 1, 3, 5, 1023, 1025, 2048] {
+        assert_eq!(bound(&vec![0; count]), refused(1, 0));
+        assert_eq!(bound(&vec![i64::MIN; count]), refused(1, 0)); // 1 before 3
+    }
+    for loud in [-32_769, 32_768, 65_536, 1 << 32, i64::MIN, i64::MAX] {
+        for (place, count) in [(0, 2), (1, 2), (0, 1024), (511, 1024), (1023, 1024)] {
+            let mut block = alone(count, place, loud);
+            assert_eq!(bound(&block), refused(3, place as u64));
+            block[count - 1] = loud; // a later one does not move the place
+            assert_eq!(bound(&block), refused(3, place as u64));
+        }
+    }
+}
+
+/// "For M = 0 every line is 0"; and at other M every line is as near to the direct sum as the bound says.
+#[test]
+fn quiet_blocks_are_within_their_bounds() {
+    for p in 1..=10 {
+        assert_eq!(forward(&vec![0; 1 << p]), Ok(vec![0; 1 << p]));
+        for m in [1, 2, 100] {
+            for mut block in blocks(p) {
+                for sample in &mut block {
+                    *sample %= m + 1; // with its sign, and at most m
+                }
+                let most = i128::from(bound(&block).unwrap()) << 60;
+                for (line, sum) in forward(&block).unwrap().iter().zip(direct(&block)) {
+                    assert!(((i128::from(*line) << 60) - sum).abs() <= most);
+                }
+            }
         }
     }
 }
@@ -245,14 +343,14 @@ fn loud_cells() {
     assert_eq!(forward(&[0, -32_769]), refused(3, 1));
     assert_eq!(forward(&[i64::MIN, 0]), refused(3, 0));
     assert_eq!(forward(&[-32_768, 32_767]), Ok(vec![-1, -65_535]));
-    let bound = 1 << 28;
-    assert_eq!(backward(&[bound, -bound]), Ok(vec![0, bound]));
-    assert_eq!(backward(&[bound + 1, 0]), refused(3, 0));
-    assert_eq!(backward(&[0, -bound - 1]), refused(3, 1));
-    assert_eq!(parts(&[0, bound + 1], 2, 2), refused(3, 1));
+    let limit = 1 << 28;
+    assert_eq!(backward(&[limit, -limit]), Ok(vec![0, limit]));
+    assert_eq!(backward(&[limit + 1, 0]), refused(3, 0));
+    assert_eq!(backward(&[0, -limit - 1]), refused(3, 1));
+    assert_eq!(parts(&[0, limit + 1], 2, 2), refused(3, 1));
     assert_eq!(power(&[i64::MIN, 0], 2), refused(3, 0));
-    assert_eq!(power(&[bound, -bound], 2), Ok(vec![1 << 57, 1 << 57]));
-    assert!(backward(&[bound; 1024]).is_ok());
+    assert_eq!(power(&[limit, -limit], 2), Ok(vec![1 << 57, 1 << 57]));
+    assert!(backward(&[limit; 1024]).is_ok());
 }
 
 #[test]
@@ -305,14 +403,14 @@ fn refused_lines() {
         assert_eq!(scaled(&vec![7; count], line), refused(4, line));
     }
     assert_eq!(scaled(&[7; 1024], 512), Ok(Scaled::Last(over(7, 1024))));
-    let bound = 1 << 28;
-    assert_eq!(scaled(&[bound, -bound, bound, bound], 1), pair(0, 2 * bound, 8));
-    assert_eq!(scaled(&[-bound, -bound, 0, -bound], 1), pair(-2 * bound, 0, 8));
+    let limit = 1 << 28;
+    assert_eq!(scaled(&[limit, -limit, limit, limit], 1), pair(0, 2 * limit, 8));
+    assert_eq!(scaled(&[-limit, -limit, 0, -limit], 1), pair(-2 * limit, 0, 8));
     // 3 before 4, wherever the loud cell stands, and 1 before both
     for line in [0, 1, 2, 3, most] {
-        assert_eq!(scaled(&[bound + 1, 0, 0, 0], line), refused(3, 0));
-        assert_eq!(scaled(&[0, 0, 0, -bound - 1], line), refused(3, 3));
-        assert_eq!(scaled(&[0, bound + 1, i64::MIN], line), refused(1, 0));
+        assert_eq!(scaled(&[limit + 1, 0, 0, 0], line), refused(3, 0));
+        assert_eq!(scaled(&[0, 0, 0, -limit - 1], line), refused(3, 3));
+        assert_eq!(scaled(&[0, limit + 1, i64::MIN], line), refused(1, 0));
     }
 }
 
@@ -675,6 +773,17 @@ fn bytes_of_the_old_host() {
     assert_eq!(scaled_bytes(&lent, 1), pair(-4, 4, 8));
     assert_eq!(backward_bytes(&mut lent), Ok(()));
     assert_eq!(lent, bytes_of(&[1, 2, 3, 4]));
+}
+
+#[test]
+fn bounds_of_bytes() {
+    assert_eq!(bound_bytes(&bytes_of(&[-100; 1024])), Ok(2_083));
+    assert_eq!(bound_bytes(&bytes_of(&[0, -1])), Ok(0));
+    let loud = bytes_of(&[0, 1 << 40, 0]);
+    for count in (0..=24).filter(|count| *count != 16) {
+        assert_eq!(bound_bytes(&loud[..count]), refused(1, 0)); // 1 before 3
+    }
+    assert_eq!(bound_bytes(&loud[..16]), refused(3, 1));
 }
 
 #[test]

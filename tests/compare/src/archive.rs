@@ -4,6 +4,7 @@ use crate::random::Random;
 
 extern "C" {
     fn hartley_forward(cells: *mut u8, cells_bytes: usize) -> u64;
+    fn hartley_bound(cells: *const u8, cells_bytes: usize) -> u64;
     fn hartley_backward(cells: *mut u8, cells_bytes: usize) -> u64;
     fn hartley_parts(
         spectrum: *const u8,
@@ -42,6 +43,7 @@ extern "C" {
     fn hartley_p(answer: u64) -> u64;
     fn hartley_blocks(answer: u64) -> u64;
     fn hartley_used(answer: u64) -> u64;
+    fn hartley_distance(answer: u64) -> u64;
 }
 
 /// The bytes on either side of what is lent.
@@ -103,11 +105,16 @@ pub fn forward(cells: &mut Lent) -> u64 {
     unsafe { hartley_forward(cells.pointer(), cells.count) }
 }
 
+/// The cells are lent as if they could be written, so that a write to them would be seen.
+pub fn bound(cells: &mut Lent) -> u64 {
+    unsafe { hartley_bound(cells.pointer(), cells.count) }
+}
+
 pub fn backward(cells: &mut Lent) -> u64 {
     unsafe { hartley_backward(cells.pointer(), cells.count) }
 }
 
-/// The spectrum is lent as if it could be written, so that a write to it would be seen; so are those of the next two.
+/// The spectrum, too, is lent as if it could be written; so are those of the next two.
 pub fn parts(spectrum: &mut Lent, real: &mut Lent, imaginary: &mut Lent) -> u64 {
     let (given, bytes) = (spectrum.pointer(), spectrum.count);
     unsafe { hartley_parts(given, bytes, real.pointer(), real.count, imaginary.pointer(), imaginary.count) }
@@ -146,9 +153,9 @@ pub fn save(rate: u64, p: u64, cells: &mut Lent, trace: &mut Lent) -> u64 {
     unsafe { hartley_save(rate as usize, p as usize, given, bytes, trace.pointer(), trace.count) }
 }
 
-/// What the unpacking calls say of any answer: number, place, case and bytes used.
-pub fn unpacked(a: u64) -> [u64; 4] {
-    unsafe { [hartley_number(a), hartley_place(a), hartley_case(a), hartley_used(a)] }
+/// What the unpacking calls say of any answer: number, place, case, bytes used and bound.
+pub fn unpacked(a: u64) -> [u64; 5] {
+    unsafe { [hartley_number(a), hartley_place(a), hartley_case(a), hartley_used(a), hartley_distance(a)] }
 }
 
 /// What they say of the answer to a search: whether a line was found, and the line.

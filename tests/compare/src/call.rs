@@ -7,6 +7,7 @@ pub const LINES: (i64, i64) = (-(1 << 28), 1 << 28);
 #[derive(Clone, Copy, Debug, PartialEq, Eq, PartialOrd, Ord)]
 pub enum Call {
     Forward,
+    Bound,
     Backward,
     Parts,
     Power,
@@ -19,7 +20,7 @@ pub enum Call {
     List,
 }
 
-/// The calls on a block.
+/// The calls on a block. Bound is run beside every forward.
 pub const ON_A_BLOCK: [Call; 5] = [Call::Forward, Call::Backward, Call::Parts, Call::Power, Call::Scaled];
 
 impl Call {
@@ -35,7 +36,7 @@ impl Call {
     /// The least and the largest cell that the call takes.
     pub fn limits(self) -> (i64, i64) {
         match self {
-            Call::Forward | Call::Save => SAMPLES,
+            Call::Forward | Call::Bound | Call::Save => SAMPLES,
             _ => LINES,
         }
     }

@@ -6,6 +6,7 @@ use crate::call::Call;
 use crate::cases::{self, Case};
 use crate::disorders;
 use crate::inputs::{cells_of, negated};
+use crate::quiet;
 use crate::random::Random;
 use crate::report::{found, packed, packed_trace, Run};
 use crate::tally::Tally;
@@ -21,6 +22,7 @@ pub struct Comparison {
     pub tally: Tally,
     pub seed: u64,
     list: String,
+    beside: Random, // for the guards of what bound is lent; the other random inputs are as they are without it
 }
 
 /// An answer, and what then stands in the bytes lent for the result.
@@ -50,11 +52,16 @@ fn second_block(call: Call, cells: &mut [u8], outputs: &mut [Vec<u8>]) -> Result
 
 impl Comparison {
     pub fn new(seed: u64, list: String) -> Comparison {
-        Comparison { random: Random::new(seed), tally: Tally::default(), seed, list }
+        let (random, beside) = (Random::new(seed), Random::new(!seed));
+        Comparison { random, tally: Tally::default(), seed, list, beside }
     }
 
-    /// A call on a block, with as many outputs as it has; what is left of two stands one after the other.
+    /// A call on a block, with as many outputs as it has; what is left of two stands one after the other. The block
+    /// that forward is given is given to bound as well.
     fn block(&mut self, call: Call, sort: &'static str, cells: &[u8], outputs: &[Vec<u8>]) -> Left {
+        if call == Call::Forward {
+            self.bound(sort, cells);
+        }
         let mut lent = Lent::new(cells, &mut self.random);
         let mut lent_outputs: Vec<Lent> = outputs.iter().map(|bytes| Lent::new(bytes, &mut self.random)).collect();
         let answer = first_block(call, &mut lent, &mut lent_outputs);
@@ -78,10 +85,30 @@ impl Comparison {
         if let Err(refusal) = second {
             self.tally.count_faults(call, refusal.number, &given, None);
         } else if call == Call::Forward {
-            self.measure(p as usize, &given, &cells_of(lent.bytes()));
+            self.measure(&given, &cells_of(lent.bytes()));
+            self.tally.count_cases(call, p as usize, &quiet::cases(&given));
         }
         let result = if outputs.is_empty() { vec![lent] } else { lent_outputs };
         (answer, result.iter().flat_map(|lent| lent.bytes().to_vec()).collect())
+    }
+
+    /// The bound of a block (document 02, Item 6). Gives the answer.
+    pub fn bound(&mut self, sort: &'static str, cells: &[u8]) -> u64 {
+        let mut lent = Lent::new(cells, &mut self.beside);
+        let answer = archive::bound(&mut lent);
+        let second = oracle::bound_bytes(cells);
+        let second_answer = packed(second.map(|bound| 256 * bound));
+        let run = Run::new(Call::Bound, sort, cells, [answer, second_answer]);
+        self.same_answer(&run, answer, second_answer);
+        self.same_lent(&run, "block", &lent, cells);
+        let given = cells_of(cells);
+        let p = given.len().max(1).ilog2();
+        self.tally.count(Call::Bound, sort, answer % 256, p);
+        match second {
+            Ok(_) => self.tally.count_cases(Call::Bound, p as usize, &quiet::cases(&given)),
+            Err(refusal) => self.tally.count_faults(Call::Bound, refusal.number, &given, None),
+        }
+        answer
     }
 
     /// A block as above and its negative, by forward or backward. Where both are taken, what is left of the one is the
@@ -278,19 +305,23 @@ impl Comparison {
         printed.stdout
     }
 
-    /// Demand 3: each line, times 2^60, is at most E(P) x 2^60 from the direct sum.
-    fn measure(&mut self, p: usize, samples: &[i64], lines: &[i64]) {
-        let direct = oracle::direct(samples);
+    /// Demand 3 with the bound of document 02, Item 6, at the block's own M: each line, times 2^60, is at most so many
+    /// times 2^60 from the direct sum. "For M = 0 every line is 0."
+    fn measure(&mut self, samples: &[i64], lines: &[i64]) {
+        let (p, m) = (samples.len().ilog2(), oracle::largest_magnitude(samples));
+        let (bound, direct) = (oracle::bound_at(p, m), oracle::direct(samples));
+        let mut farthest = 0;
         for v in 0..lines.len() {
             let distance = (i128::from(lines[v]) * (1 << 60) - direct[v]).abs();
-            self.tally.farthest[p] = self.tally.farthest[p].max(distance);
-            if distance > i128::from(oracle::E[p - 1]) * (1 << 60) {
-                println!("comparison: P {p}, line {v} is {distance} / 2^60 from the direct sum");
+            farthest = farthest.max(distance);
+            if distance > i128::from(bound) * (1 << 60) || (m == 0 && lines[v] != 0) {
+                println!("comparison: P {p}, line {v} is {}, {distance} / 2^60 from the direct sum", lines[v]);
+                println!("  M {m}, bound {bound}");
                 println!("  seed {}, input {}, samples {samples:?}", self.seed, self.tally.inputs);
                 exit(1);
             }
         }
-        self.tally.measured[p] += 1;
+        self.tally.count_measured(p as usize, m, farthest);
     }
 }
 

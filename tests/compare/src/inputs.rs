@@ -69,7 +69,7 @@ pub fn negated(bytes: &[u8]) -> Vec<u8> {
 }
 
 /// Cosine plus sine after j of a turn's 1,024 steps. Samples of its sign make a line as large as it can be.
-fn cas(j: usize) -> i64 {
+pub fn cas(j: usize) -> i64 {
     let j = (j % 1024) as i64;
     oracle::table_cosine(j) + oracle::table_cosine((j + 768) % 1024)
 }

@@ -10,6 +10,7 @@ mod double;
 mod fetches;
 mod inputs;
 mod lines;
+mod quiet;
 mod random;
 mod report;
 mod save_cases;
@@ -73,6 +74,10 @@ fn main() {
     }
     for _ in 0..rounds {
         words::words(&mut c);
+    }
+    let worked = worked + apart(&mut c, worked::bounds);
+    for _ in 0..rounds {
+        quiet::blocks(&mut c);
     }
     c.tally.print();
     c.tally.must_be_complete();

@@ -52,13 +52,15 @@ pub fn packed_trace(second: &Result<Contents, Refusal>) -> u64 {
 
 impl Comparison {
     /// An answer as a number, and what the unpacking calls say of it: the number of the refusal, and then its place; and
-    /// of any answer its seven upper bytes, which are the bytes used where a trace was saved. A number that both
-    /// programs give is one of the papers'; 13 is none any longer (document 02, Item 3).
+    /// of any answer its seven upper bytes, which are the bytes used where a trace was saved, and the bound of a block
+    /// where that was asked for. A number that both programs give is one of the papers'; 13 is none any longer
+    /// (document 02, Item 3).
     pub fn same_answer(&self, run: &Run, answer: u64, second: u64) {
-        let [number, place, _, used] = archive::unpacked(answer);
+        let [number, place, _, used, distance] = archive::unpacked(answer);
         self.same(run, "answer", answer, second);
         self.same(run, "hartley_number", number, second % 256);
         self.same(run, "hartley_used", used, second / 256);
+        self.same(run, "hartley_distance", distance, second / 256);
         if second % 256 != 0 {
             self.same(run, "hartley_place", place, second / 256);
         }

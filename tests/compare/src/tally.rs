@@ -3,6 +3,7 @@
 use crate::call::Call;
 use crate::cases::Case;
 use crate::disorders::Form;
+use crate::quiet::QUIET;
 use crate::traces::most_blocks;
 use oracle::Scaled;
 use std::collections::{BTreeMap, BTreeSet};
@@ -10,8 +11,9 @@ use std::process::exit;
 
 /// Every call, with the numbers of its refusals: those that are given at every P, 0 being the accepted inputs, and
 /// those of blocks and traces that have no P.
-const ANSWERS: [(Call, &[usize], &[usize]); 11] = [
+const ANSWERS: [(Call, &[usize], &[usize]); 12] = [
     (Call::Forward, &[0, 3], &[1]),
+    (Call::Bound, &[0, 3], &[1]),
     (Call::Backward, &[0, 3], &[1]),
     (Call::Parts, &[0, 2, 3], &[1]),
     (Call::Power, &[0, 2, 3], &[1]),
@@ -31,8 +33,9 @@ pub fn in_the_papers(call: Call, number: u64) -> bool {
 }
 
 /// Faults that an input can have together, in the order of their tests: the first decides.
-const TOGETHER: [(Call, [u64; 2]); 22] = [
+const TOGETHER: [(Call, [u64; 2]); 23] = [
     (Call::Forward, [1, 3]),
+    (Call::Bound, [1, 3]),
     (Call::Backward, [1, 3]),
     (Call::Parts, [1, 3]),
     (Call::Parts, [2, 3]),
@@ -89,6 +92,26 @@ struct Lines {
     zeros: [u64; 4],
 }
 
+/// Blocks measured, and their largest distance from the direct sum, times 2^60.
+#[derive(Clone, Copy, Default)]
+struct Measured {
+    blocks: u64,
+    farthest: i128,
+}
+
+impl Measured {
+    fn count(&mut self, distance: i128) {
+        self.blocks += 1;
+        self.farthest = self.farthest.max(distance);
+    }
+
+    /// The distance in thousandths, rounded up.
+    fn shown(&self) -> String {
+        let far = (self.farthest * 1000 + (1 << 60) - 1) / (1 << 60);
+        format!("{}.{:03}", far / 1000, far % 1000)
+    }
+}
+
 #[derive(Default)]
 pub struct Tally {
     pub inputs: u64,
@@ -107,14 +130,14 @@ pub struct Tally {
     /// For each P the saved traces of which each block was read back, and the traces saved again, by their sizes.
     read_back: [[u64; 4]; 11],
     saved_again: [[u64; 4]; 11],
-    /// The cases of the searches, of saving and of the words of a fetch, with the least P of each: how often it was
-    /// seen at each P.
+    /// The cases of the searches, of saving, of the words of a fetch and of a block's M, with the least P of each: how
+    /// often it was seen at each P.
     cases: BTreeMap<(Call, &'static str, usize), [u64; 11]>,
     /// The forms of the traces that check refused, and of the heads that save refused: how often each was seen.
     forms: BTreeMap<(Call, &'static str), u64>,
-    /// For each P the blocks measured, and the largest distance, times 2^60.
-    pub measured: [u64; 11],
-    pub farthest: [i128; 11],
+    /// For each P the blocks measured, all of them, and those of each quiet M.
+    measured: [Measured; 11],
+    quiet: [[Measured; 5]; 11],
 }
 
 impl Tally {
@@ -174,7 +197,15 @@ impl Tally {
         self.saved_again[p as usize][size(p, blocks)] += 1;
     }
 
-    /// Counts a search or a saving of this P, for each case whether it is one.
+    /// Counts a block of this P and M, whose lines are so far from the direct sum at most.
+    pub fn count_measured(&mut self, p: usize, m: u64, distance: i128) {
+        self.measured[p].count(distance);
+        if let Some(i) = QUIET.iter().position(|(_, its)| *its == m) {
+            self.quiet[p][i].count(distance);
+        }
+    }
+
+    /// Counts an input of this P, for each case whether it is one.
     pub fn count_cases(&mut self, call: Call, p: usize, cases: &[Case]) {
         for &(case, least, shown) in cases {
             self.cases.entry((call, case, least)).or_default()[p] += u64::from(shown);
@@ -249,7 +280,7 @@ impl Tally {
 
     fn print_cases(&self) {
         let heads: String = (1..=10).map(|p| format!("{p:>7}")).collect();
-        println!("\n{:56}{heads}", "cases of the searches, of saving and of words, at P");
+        println!("\n{:56}{heads}", "cases of searches, of saving, of words and of M, at P");
         for ((call, case, _), counts) in &self.cases {
             let counts: String = counts[1..].iter().map(|count| format!("{count:>7}")).collect();
             println!("{:56}{counts}", format!("{call:?}, {case}"));
@@ -271,9 +302,20 @@ impl Tally {
         }
         println!("\n{:>2}{:>9}{:>18}{:>8}", "P", "blocks", "largest distance", "E(P)");
         for p in 1..=10 {
-            let far = (self.farthest[p] * 1000 + (1 << 60) - 1) / (1 << 60); // rounded up
-            let far = format!("{}.{:03}", far / 1000, far % 1000);
-            println!("{p:>2}{:>9}{far:>18}{:>8}", self.measured[p], oracle::E[p - 1]);
+            let measured = self.measured[p];
+            println!("{p:>2}{:>9}{:>18}{:>8}", measured.blocks, measured.shown(), oracle::E[p - 1]);
+        }
+        self.print_quiet();
+    }
+
+    /// The largest distances at the quiet M, each with its bound.
+    fn print_quiet(&self) {
+        let heads = QUIET.map(|(case, _)| format!("{case:>12}{:>8}", "bound")).concat();
+        println!("\nlargest distances of quiet blocks, each with its bound\n{:>2}{heads}", "P");
+        for p in 1..=10 {
+            let bounds = QUIET.map(|(_, m)| oracle::bound_at(p as u32, m));
+            let row = self.quiet[p].iter().zip(bounds).map(|(its, bound)| format!("{:>12}{bound:>8}", its.shown()));
+            println!("{p:>2}{}", row.collect::<String>());
         }
     }
 

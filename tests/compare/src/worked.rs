@@ -80,7 +80,61 @@ fn refused_saves(c: &mut Comparison) {
     }
 }
 
-/// The second program's table and bounds, and how a double is held to a fraction.
+/// The bound at a block's own M (document 02, Item 6), by hand: "For M = 100 and P = 10 that is 2,083 instead of
+/// 11,306. For M = 0 every line is 0."
+pub fn bounds(c: &mut Comparison) {
+    let alone = |n: usize, place: usize, sample: i64| {
+        let mut cells = vec![0; n];
+        cells[place] = sample;
+        cells
+    };
+    for (cells, bound) in [
+        (vec![-32_768, 32_767], 0),
+        (vec![32_767; 4], 0),
+        (vec![0; 8], 1),
+        (alone(8, 7, -1), 2), // 4 × 1 over 32,768, rounded up, is 1
+        (alone(8, 0, 8192), 2),
+        (alone(8, 4, -8193), 3), // 4 × 8,193 over 32,768, rounded up, is 2
+        (alone(16, 15, 1), 7),   // 5/2 of 2 is 5
+        (vec![0; 16], 4),        // 5/2 of 1, rounded up, is 3
+        (vec![0; 1024], 1166),
+        (alone(1024, 511, 64), 2082), // 512 × 64 over 32,768 is 1
+        (alone(1024, 512, -65), 2083),
+        (vec![100; 1024], 2083),
+        (vec![-100; 1024], 2083),
+        (alone(1024, 0, 100), 2083),
+        (alone(1024, 1023, -100), 2083),
+        (vec![32_767; 1024], 11_306),
+    ] {
+        bound_of(c, &cells, bound);
+    }
+    for (i, figure) in [0, 0, 5, 22, 72, 213, 598, 1624, 4317, 11_306].into_iter().enumerate() {
+        bound_of(c, &vec![-32_768; 2 << i], figure); // "the old figures follow from it"
+        block(c, Call::Forward, &vec![0; 2 << i], &vec![0; 2 << i]);
+    }
+    refused_bounds(c);
+}
+
+/// "with forward's checks": 1, then 3 with its place; and a count of bytes that is no multiple of eight.
+fn refused_bounds(c: &mut Comparison) {
+    for (cells, answer) in [
+        (&[][..], 1),
+        (&[0], 1),
+        (&[0; 3], 1),
+        (&[0; 2048], 1),
+        (&[1 << 40; 3], 1), // 1 before 3
+        (&[0, 32_768], refused(3, 1)),
+        (&[0, 0, -32_769, 32_768], refused(3, 2)),
+        (&[i64::MIN, i64::MAX], refused(3, 0)),
+    ] {
+        assert_eq!(c.bound(SORT, &bytes_of(cells)), answer, "bound of {cells:?}");
+    }
+    for count in [9, 15, 17, 23] {
+        assert_eq!(c.bound(SORT, &bytes_of(&[1 << 40; 3])[..count]), 1, "bound of {count} bytes");
+    }
+}
+
+/// The second program's table and distances E, and how a double is held to a fraction.
 fn second_program() {
     for (j, t) in [(0, 32768), (64, 30274), (128, 23170), (192, 12540), (256, 0)] {
         assert_eq!(oracle::table_cosine(j), t, "T({j}) of the second program");
@@ -311,6 +365,11 @@ fn block(c: &mut Comparison, call: Call, cells: &[i64], result: &[i64]) {
         _ => oracle::power(cells, lent),
     };
     assert_eq!(own, Ok(result.to_vec()), "{call:?} of {cells:?} by the second program");
+}
+
+fn bound_of(c: &mut Comparison, cells: &[i64], bound: u64) {
+    assert_eq!(c.bound(SORT, &bytes_of(cells)), 256 * bound, "bound of {cells:?}");
+    assert_eq!(oracle::bound(cells), Ok(bound), "bound of {cells:?} by the second program");
 }
 
 fn line(c: &mut Comparison, cells: &[i64], line: u64, case: u64, doubles: &[f64]) {
