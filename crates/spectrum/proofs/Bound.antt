@@ -1,27 +1,25 @@
--- The bound grows with M and falls as the scale grows, since both quotients are rounded up, and a / b rounded up is the least c with a ≤ c b.
+-- The bound grows with M and falls as the scale grows, since both quotients are rounded up, and a / b rounded up is the least c with a ≤ b c.
 -- Example: `bound-grows 32768 q-positive M N M≤N P : bound 32768 M P ≤ bound 32768 N P`.
 use mathlib.Core.Path.{_≡_, refl}
 use Prim.Native.Nat.{ℕ, zero, suc, _+_, _*_, _-_, _^_, _≤_, _<_}
-use native.Mathlib.Nat.{div-add-mod', le-trans, mod-lt, mul-le-mul-left, mul-le-mul-right, div-lt-iff-lt-mul}
+use native.Mathlib.Nat.{div-lt-iff-lt-mul, le-trans, mul-le-mul-left, mul-le-mul-right}
 use native.Mathlib.Omega.{arith}
 use lib.Pow.{pow-pos}
 use Rattle.ints.proofs.Powers.{two-pow}
 use Rattle.spectrum.specs.Distance.{bound, ceiling}
+use Rattle.spectrum.proofs.Step.{ceiling-enough}
 
 -- ---- a / b, rounded up
 
-module _ (a b : ℕ) (some : 0 < b) where
-  pub ceiling-reaches : a ≤ ceiling a b * b
-  ceiling-reaches = omega (arith, div-add-mod' (a + (b - 1)) b, mod-lt (a + (b - 1)) some)
-
-  pub ceiling-least : (c : ℕ) → a ≤ c * b → ceiling a b ≤ c
-  ceiling-least c h = let below : ceiling a b < suc c = div-lt-iff-lt-mul some .1 (omega arith) in omega arith
+-- no smaller number c has a ≤ b c; that this one has is `ceiling-enough`
+pub ceiling-least : (a b : ℕ) → 0 < b → (c : ℕ) → a ≤ b * c → ceiling a b ≤ c
+ceiling-least a b some c h = let below : ceiling a b < suc c = div-lt-iff-lt-mul some .1 (omega arith) in omega arith
 
 ceiling-grows : (a c b : ℕ) → 0 < b → a ≤ c → ceiling a b ≤ ceiling c b
-ceiling-grows a c b some h = ceiling-least a b some (ceiling c b) (le-trans h (ceiling-reaches c b some))
+ceiling-grows a c b some h = ceiling-least a b some (ceiling c b) (le-trans h (ceiling-enough c b some))
 
 ceiling-falls : (a b c : ℕ) → 0 < b → b ≤ c → ceiling a c ≤ ceiling a b
-ceiling-falls a b c some h = ceiling-least a c (omega arith) (ceiling a b) (le-trans (ceiling-reaches a b some) (mul-le-mul-left (ceiling a b) h))
+ceiling-falls a b c some h = ceiling-least a c (omega arith) (ceiling a b) (le-trans (ceiling-enough a b some) (mul-le-mul-right (ceiling a b) h))
 
 -- ---- the bound by its number of levels
 
@@ -65,7 +63,7 @@ bound-falls q r some h M (suc (suc (suc P))) = omega (
 -- ---- its size: at most N² (M + 1), N being the number of samples
 
 size-step : (n M B q : ℕ) → 0 < q → 0 < n → B ≤ n * n * (M + 1) → ceiling (5 * B) 2 + ceiling (n * M) q + 1 ≤ 2 * n * (2 * n) * (M + 1)
-size-step n M B q some one h = omega (arith, ceiling-least (n * M) q some (n * M) (omega (arith, mul-le-mul-left (n * M) some)), mul-le-mul-right n one, mul-le-mul-right M (mul-le-mul-right n one))
+size-step n M B q some one h = omega (arith, ceiling-least (n * M) q some (n * M) (omega (arith, mul-le-mul-right (n * M) some)), mul-le-mul-right n one, mul-le-mul-right M (mul-le-mul-right n one))
 
 pub bound-size : (q : ℕ) → 0 < q → (M P : ℕ) → bound q M P ≤ 2 ^ P * 2 ^ P * (M + 1)
 unfolding bound

@@ -75,7 +75,7 @@ module _ (q U Z G B : ℕ) (U-positive : zero < U) where
           2 * U * (q * X) ≤ 2 * U * (q * (B * U) + (G + B) * U + q * U + q * (B * Z))
       total i j k l h1 h2 h3 h4 h5 h6 = omega (arith, h1, h2, h3, h4, h5, h6)
 
-ceiling-enough : (a b : ℕ) → zero < b → a ≤ b * ceiling a b
+pub ceiling-enough : (a b : ℕ) → zero < b → a ≤ b * ceiling a b
 ceiling-enough a b z = omega (arith, div-add-mod (a + (b - 1)) b, mod-lt (a + (b - 1)) z)
 
 -- q divided out. U is 65,536 W and Z is 92,682 W, that is, √2 U: 1 + 92,682 / 65,536 + 1 / q is at most 5/2 from q = 12 on.
