@@ -214,7 +214,7 @@ static const struct bound {
     {"bound, 2 cells of 0", 2 * CELL, 0, 0, 0, 0, 0},
     {"bound, 8 cells of 0", 8 * CELL, 0, 0, 0, 0, 1},
     {"bound, 1024 cells of 0", 1024 * CELL, 0, 0, 0, 0, 1166},
-    /* as loud as a block can be: no bound is larger */
+    /* the loudest of either sign: no bound is larger */
     {"bound, 8 cells, the loudest is -32768", 8 * CELL, 32767, 0, -32768, 0, 5},
     {"bound, 16 cells, the loudest is 32767", 16 * CELL, 1, 15, 32767, 0, 22},
     {"bound, 32 cells, the loudest is -32768", 32 * CELL, 1, 31, -32768, 0, 72},
@@ -554,7 +554,7 @@ static uint8_t *new_block(size_t bytes, size_t place, int64_t cell)
 }
 
 /* A list of so many bytes with all cells the same, but the one at the place. */
-static uint8_t *new_even_block(size_t bytes, int64_t others, size_t place, int64_t cell)
+static uint8_t *new_flat_block(size_t bytes, int64_t others, size_t place, int64_t cell)
 {
     uint8_t *list = new_list(bytes);
     for (size_t t = 0; CELL * (t + 1) <= bytes; t++)
@@ -656,7 +656,7 @@ static uint64_t call(enum entry entry, struct lent cells, struct lent first, str
    and where all samples are 0 it leaves them so. */
 static void show_bound(const struct bound *row)
 {
-    struct lent cells = lend(new_even_block(row->bytes, row->others, row->at, row->cell), row->bytes);
+    struct lent cells = lend(new_flat_block(row->bytes, row->others, row->at, row->cell), row->bytes);
     uint64_t answer = hartley_bound(cells.list, cells.bytes);
     expect(row->what, answer, row->number, row->place_or_bound);
     if (row->number == 0) {

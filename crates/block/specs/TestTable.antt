@@ -14,10 +14,10 @@ use Rattle.block.specs.Tests.{misfit, firstLoud}
 abbrev pub RefusalRow : Type 0
 RefusalRow = Bool × ℕ × ℕ
 
--- number and place of the first row that is given, or P where none is
+-- number and place of the first row that is given, or where none is the number that is answered then: P, for the tests below
 unfoldable pub firstGiven : List RefusalRow → ℕ → List ℕ
-firstGiven [] P = P ∷ []
-firstGiven (row ∷ rows) P = cond (row .0) (row .1 ∷ row .2 ∷ []) (firstGiven rows P)
+firstGiven [] answered = answered ∷ []
+firstGiven (row ∷ rows) answered = cond (row .0) (row .1 ∷ row .2 ∷ []) (firstGiven rows answered)
 
 -- rows 1, 2 and 3, for cells of low to high and for outputs that should have N/2 + 1 cells each; `exponent` is 0 where no block has N cells
 abbrev pub refusalRows : ℤ → ℤ → List ℕ → List ℤ → List RefusalRow

@@ -17,24 +17,24 @@ ghost use Rattle.distance.specs.Inner.{Listened};
 pub fn bound(bytes: &[u8]) -> BoundAnswer
     ensures { λ r. ⌜ r ≡ boundAnswer (cellsIn (now (bytes .entry))) ⌝ }
 {
-    let cells = cell_bytes::cell_count(bytes.len(), bytes.len());
-    match BlockKind::of_len(cells) {
+    let len = cell_bytes::cell_count(bytes.len(), bytes.len());
+    match BlockKind::of_len(len) {
         KindFound::None => BoundAnswer::Refused(Refusal::Length),
         KindFound::Found(kind) => {
-            let heard = listen(bytes, cells);
-            distance::answer(kind.p, cells, heard.samples, heard.largest)
+            let heard = listen(bytes, len);
+            distance::answer(kind.p, len, heard.samples, heard.largest)
         }
     }
 }
 
-// Goes through the cells, so many of them, up to the first loud one.
-fn listen(bytes: &[u8], cells: usize) -> Heard
-    requires { ⌜ cells ≡ length (cellsIn (now bytes)) ⌝ }
+// Goes through the cells, len of them, up to the first loud one.
+fn listen(bytes: &[u8], len: usize) -> Heard
+    requires { ⌜ len ≡ length (cellsIn (now bytes)) ⌝ }
     ensures { λ r. ⌜ Listened (cellsIn (now (bytes .entry))) r ⌝ }
 {
     let mut largest = 0;
     let mut i = 0;
-    while i < cells {
+    while i < len {
         let x = cell_bytes::cell_at(bytes, i);
         if block::loud(LEAST_SAMPLE, LARGEST_SAMPLE, x) {
             return Heard {

@@ -27,7 +27,7 @@ boundAnswer xs = boundTo xs (testedSamples xs)
 
 -- the bound, or number and place of a refusal
 abbrev pub boundAnswerNumbers : BoundAnswer → List ℕ
-boundAnswerNumbers (Bound bound) = bound ∷ []
+boundAnswerNumbers (Bound B) = B ∷ []
 boundAnswerNumbers (Refused refusal) = number refusal ∷ place refusal ∷ []
 
 -- the rows of refused input for forward, of samples from -32,768 to 32,767; where none is given, the bound at scale 32,768, with M and P of the cells

@@ -37,12 +37,12 @@ pub fn bound(cells: &[i64]) -> BoundAnswer
     }
 }
 
-// The answer for so many cells, 2^p of them, by how many samples come before the first loud one, and the largest magnitude among them.
-pub fn answer(p: usize, cells: usize, samples: usize, largest: u64) -> BoundAnswer
-    requires { ⌜ CanAnswer p cells samples largest ⌝ }
-    ensures { λ r. ⌜ r ≡ answerBy p cells samples largest ⌝ }
+// The answer for 2^p cells, which are len, by how many samples come before the first loud one, and the largest magnitude among them.
+pub fn answer(p: usize, len: usize, samples: usize, largest: u64) -> BoundAnswer
+    requires { ⌜ CanAnswer p len samples largest ⌝ }
+    ensures { λ r. ⌜ r ≡ answerBy p len samples largest ⌝ }
 {
-    if samples < cells {
+    if samples < len {
         BoundAnswer::Refused(Refusal::Loud(samples))
     } else {
         BoundAnswer::Bound(bound_for(BlockKind::SCALE as u64, largest, p))
@@ -90,15 +90,15 @@ fn bound_for(scale: u64, largest: u64, p: usize) -> u64
     requires { ⌜ CanBound scale largest p ⌝ }
     ensures { λ r. ⌜ r ≡ bound scale largest p ⌝ }
 {
-    let mut bound = 0;
+    let mut so_far = 0;
     let mut half = 4;
     let mut level = 2;
     while level < p {
-        bound = next_bound(scale, half * largest, bound);
+        so_far = next_bound(scale, half * largest, so_far);
         half = 2 * half;
         level += 1;
     }
-    bound
+    so_far
 }
 
 // The bound after one level more: 5/2 of the one before, and what half the length times the magnitude is over the scale, both rounded up, and 1.

@@ -1,6 +1,7 @@
 -- What forward leaves of a block that it takes: demand 3 and the law of the first line hold of it, it leaves the negative for the negative of the block, and
 -- no call that takes a spectrum refuses it, since it has the length of its block and no line is too loud. Where every sample is 0, every line is 0.
--- Example: `forward-taken outputs xs kind e f : testedSpectrum outputs (forward (kind .p) xs) ≡ Taken kind`, with e : testedSamples xs ≡ Taken kind.
+-- Example: `forward-taken outputs xs kind e f : testedSpectrum outputs (forward (kind .p) xs) ≡ Taken kind`, with e : testedSamples xs ≡ Taken kind. A caller
+-- of forward has document 01's figures by `near-by-E xs (sym answer ∙ d) ys (distance d) : NearByE xs ys`, with d : r ≡ Done and the clauses answer and distance.
 use mathlib.Core.Path.{_≡_, refl, sym, _∙_, ap}
 use mathlib.Core.Bool.{false}
 use mathlib.Core.List.{List, []}
@@ -14,6 +15,7 @@ use Rattle.ints.specs.Sum.{sum}
 use Rattle.ints.proofs.Abs.{abs-lower, abs-upper, abs-zero}
 use Rattle.ints.proofs.Powers.{same-power}
 use Rattle.kind.specs.declared.BlockKind.{BlockKind}
+use Rattle.kind.specs.BlockKinds.{SCALE}
 use Rattle.kind.specs.Loudness.{LOUDEST-LINE}
 use Rattle.block.specs.declared.Answer.the-variants.{Done}
 use Rattle.block.specs.declared.BlockVerdict.{BlockVerdict}
@@ -23,13 +25,15 @@ use Rattle.block.specs.BlockAnswers.{blockAnswer, cellsLeft}
 use Rattle.block.proofs.Negative.{negative-kind}
 use Rattle.block.proofs.Taken.{taken-kind, samples-quiet, must-take}
 use Rattle.spectrum.specs.Spectrum.{forward}
-use Rattle.spectrum.specs.Distance.{E, blockBound, largestMagnitude}
-use Rattle.spectrum.proofs.ForwardDistance.{block-bound-E, demand-3, forward-first}
+use Rattle.spectrum.specs.Distance.{E, LinesWithin, blockBound, largestMagnitude}
+use Rattle.spectrum.proofs.ForwardDistance.{bound-E, demand-3, forward-first}
 use Rattle.spectrum.proofs.LargestMagnitude.{within-largest}
 use Rattle.spectrum.proofs.Loudness.{length-forward, forward-quiet}
 use Rattle.spectrum.proofs.Negative.{forward-negated}
 use Rattle.spectrum.proofs.Silent.{forward-silent}
-use Rattle.distance.proofs.Answered.{taken-largest}
+use Rattle.distance.specs.declared.BoundAnswer.the-variants.{Bound}
+use Rattle.distance.specs.BoundAnswers.{boundAnswer}
+use Rattle.distance.proofs.Answered.{answered-bound, taken-largest}
 use Rattle.hartley.specs.Promises.{FirstLineExact, NearByE, NearDirectSum, NegativeSpectrum, forwardLeft}
 
 module _ (xs : List ℤ) where
@@ -45,7 +49,7 @@ module _ (xs : List ℤ) where
 
   -- document 01's figures, read off demand 3 as it is promised
   by-E : (k : BlockVerdict) → testedSamples xs ≡ k → blockAnswer k ≡ Done → (ys : List ℤ) → NearDirectSum xs ys → NearByE xs ys
-  by-E (Taken kind) e d ys near = let least : blockBound (near .0) xs ≤ E (near .0) = block-bound-E (near .0) (few (near .0) (near .1)) xs (taken-largest xs kind e) in
+  by-E (Taken kind) e d ys near = let least : blockBound (near .0) xs ≤ E (near .0) = bound-E SCALE (largestMagnitude xs) (near .0) (omega arith) (taken-largest xs kind e) (few (near .0) (near .1)) in
       (near .0, near .1, λ v h. le-trans (near .2 v h) (mul-le-mul-right (2 ^ 60) least))
     where
       few : (P : ℕ) → length xs ≡ 2 ^ P → P ≤ 10
@@ -54,6 +58,10 @@ module _ (xs : List ℤ) where
 
   pub near-by-E : blockAnswer (testedSamples xs) ≡ Done → (ys : List ℤ) → NearDirectSum xs ys → NearByE xs ys
   near-by-E d ys near = by-E (testedSamples xs) refl d ys near
+
+  -- no line is farther from the direct sum than `bound` answers for the block
+  pub within-answered : {B : ℕ} → boundAnswer xs ≡ Bound B → (ys : List ℤ) → NearDirectSum xs ys → LinesWithin B xs ys
+  within-answered e ys near = rw (answered-bound xs e (near .0) (near .1)) (near .2)
 
   -- Item 6: for M = 0 every line is 0
   silent : (k : BlockVerdict) → largestMagnitude xs ≡ 0 → (v : ℕ) → cell (cellsLeft (λ P. forward P xs) xs k) v ≡ pos 0

@@ -202,7 +202,7 @@ search-unpacked asked (SearchRefused refusal) tellable fits = told refusal _ _ (
 
 -- ---- a number in seven bytes, as the bytes that a saved trace takes or the bound of a block
 
-seven-bytes : (n : ℕ) → n < 256 ^ 7 → let a = 256 * (n % 256 ^ 7) in (numberIn a ≡ 0) × (a / 256 ≡ n)
+pub seven-bytes : (n : ℕ) → n < 256 ^ 7 → let a = 256 * (n % 256 ^ 7) in (numberIn a ≡ 0) × (a / 256 ≡ n)
 seven-bytes n h = (omega arith, omega arith)
 
 seven-told : (n shown : ℕ) → n < 256 ^ 7 → let a = 256 * (n % 256 ^ 7) in unlessRefused a shown (a / 256 ∷ []) ≡ n ∷ []

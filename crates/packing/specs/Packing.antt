@@ -35,7 +35,7 @@ packed Done = 0
 packed (Refused refusal) = packedRefusal refusal
 
 abbrev pub packedBound : BoundAnswer → ℕ
-packedBound (Bound bound) = 256 * (bound % 256 ^ 7)
+packedBound (Bound B) = 256 * (B % 256 ^ 7)
 packedBound (BoundRefused refusal) = packedRefusal refusal
 
 abbrev pub packedTrace : TraceAnswer → ℕ

@@ -1,4 +1,4 @@
--- The bound grows with M and falls as the scale grows, since both quotients are rounded up, and a / b rounded up is the least c with a ≤ b c.
+-- The bound grows with M and falls as the scale grows, since a / b rounded up, which is the least c with a ≤ b c, grows with a and falls as b grows.
 -- Example: `bound-grows 32768 q-positive M N M≤N P : bound 32768 M P ≤ bound 32768 N P`.
 use mathlib.Core.Path.{_≡_, refl}
 use Prim.Native.Nat.{ℕ, zero, suc, _+_, _*_, _-_, _^_, _≤_, _<_}

@@ -23,7 +23,7 @@ use Rattle.spectrum.specs.Levels.{permuted}
 use Rattle.spectrum.specs.Spectrum.{tableCosine, tableSine, levelsAt, forwardAt, forward}
 use Rattle.spectrum.specs.Limits.{LARGEST-CELL, LARGEST-PRODUCT, Room}
 use Rattle.spectrum.specs.Distance.{LinesWithin, blockBound, bound, directSum, E, largestMagnitude}
-use Rattle.spectrum.proofs.Bound.{bound-grows}
+use Rattle.spectrum.proofs.Bound.{bound-falls, bound-grows}
 use Rattle.spectrum.proofs.LargestMagnitude.{within-largest}
 use Rattle.spectrum.proofs.Nearest.{LARGEST-M, Nearest, nearest-at}
 use Rattle.spectrum.proofs.Distance.{distance}
@@ -36,6 +36,11 @@ pub distance-at : (s : ℕ) → 4 ≤ s → s < 60 → (M : ℕ) → M ≤ LARGE
     (v : ℕ) → v < 2 ^ P → natAbs (cell (forwardAt s P xs) v *ℤ pos (2 ^ 60) -ℤ directSum fine xs v) ≤ bound (2 ^ s) M P * 2 ^ 60
 unfolding forwardAt
 distance-at s low high M M-small = distance (nearest-at s low high) M M-small
+
+-- at the block's own M
+pub demand-3-at : (s : ℕ) → 4 ≤ s → s < 60 → (P : ℕ) → P ≤ 10 → (xs : List ℤ) → length xs ≡ 2 ^ P → largestMagnitude xs ≤ LARGEST-M →
+    LinesWithin (bound (2 ^ s) (largestMagnitude xs) P) xs (forwardAt s P xs)
+demand-3-at s low high P few xs long small v h = distance-at s low high (largestMagnitude xs) small P few xs long (within-largest xs) v (omega arith)
 
 -- ---- at the scale in force
 
@@ -50,13 +55,13 @@ figures = tt
 pub E-is-bound : (P : ℕ) → P ≤ 10 → bound SCALE LOUDEST-SAMPLE P ≡ E P
 E-is-bound P few = eqb→eq _ _ (alongside-at eqb (bound SCALE LOUDEST-SAMPLE) E 11 11 figures P (omega arith))
 
--- and so no block whose M is at most 32,768 has a larger bound than E(P)
-pub block-bound-E : (P : ℕ) → P ≤ 10 → (xs : List ℤ) → largestMagnitude xs ≤ LOUDEST-SAMPLE → blockBound P xs ≤ E P
-block-bound-E P few xs quiet = omega (arith, bound-grows SCALE (omega arith) (largestMagnitude xs) LOUDEST-SAMPLE quiet P, E-is-bound P few)
+-- and so no bound is larger than E(P) where M is at most 32,768 and the scale at least that
+pub bound-E : (q M P : ℕ) → SCALE ≤ q → M ≤ LOUDEST-SAMPLE → P ≤ 10 → bound q M P ≤ E P
+bound-E q M P fine-enough quiet few = omega (arith, bound-falls SCALE q (omega arith) fine-enough M P, bound-grows SCALE (omega arith) M LOUDEST-SAMPLE quiet P, E-is-bound P few)
 
 pub demand-3 : (P : ℕ) → P ≤ 10 → (xs : List ℤ) → length xs ≡ 2 ^ P → largestMagnitude xs ≤ LARGEST-M → LinesWithin (blockBound P xs) xs (forward P xs)
 unfolding forward
-demand-3 P few xs long small v h = distance-at SCALE-DIGITS (omega arith) (omega arith) (largestMagnitude xs) small P few xs long (within-largest xs) v (omega arith)
+demand-3 = demand-3-at SCALE-DIGITS (omega arith) (omega arith)
 
 -- ---- line 0 is the sum of the samples
 

@@ -40,11 +40,11 @@ module _ (x : ℤ) (xs : List ℤ) where
   there h i l = record { within = omega (arith, l .within); is = omega (arith, l .is) }
 
 -- the first cell or, by the loudest of the others, one of these
-louder : (x : ℤ) (xs : List ℤ) → (i : ℕ) × Loudest xs i → (t : Bool) → (T t → largestMagnitude xs < natAbs x) → (T (not t) → natAbs x ≤ largestMagnitude xs) → (i : ℕ) × Loudest (x ∷ xs) i
-louder x xs l true f g = (0, here x xs (omega (arith, f tt)))
-louder x xs l false f g = (suc (l .0), there x xs (g tt) (l .0) (l .1))
+which : (x : ℤ) (xs : List ℤ) → (i : ℕ) × Loudest xs i → (t : Bool) → (T t → largestMagnitude xs < natAbs x) → (T (not t) → natAbs x ≤ largestMagnitude xs) → (i : ℕ) × Loudest (x ∷ xs) i
+which x xs l true f g = (0, here x xs (omega (arith, f tt)))
+which x xs l false f g = (suc (l .0), there x xs (g tt) (l .0) (l .1))
 
 pub loudest : (x : ℤ) (xs : List ℤ) → (i : ℕ) × Loudest (x ∷ xs) i
 unfolding largestMagnitude
 loudest x [] = (0, here x [] (omega arith))
-loudest x (y ∷ ys) = louder x (y ∷ ys) (loudest y ys) (ltb (largestMagnitude (y ∷ ys)) (natAbs x)) (ltb→lt _ _) (nltb→le _ _)
+loudest x (y ∷ ys) = which x (y ∷ ys) (loudest y ys) (ltb (largestMagnitude (y ∷ ys)) (natAbs x)) (ltb→lt _ _) (nltb→le _ _)

@@ -15,7 +15,7 @@ unfoldable pub directSum : (ℕ → ℕ) → List ℤ → ℕ → ℤ
 unfolding sum cas
 directSum F xs v = let N = length xs in sum N (λ t. cell xs t *ℤ cas F (v * t * TURN / N % TURN))
 
--- each cell v of ys, times 2^60, is at most B × 2^60 from line v of the direct sum of the samples xs, to either side
+-- for each line v of the N samples xs, 0 to N − 1: cell v of ys, times 2^60, is at most B × 2^60 from the direct sum, to either side
 abbrev pub LinesWithin : ℕ → List ℤ → List ℤ → Type 0
 LinesWithin B xs ys = (v : ℕ) → v < length xs → natAbs (cell ys v *ℤ pos (2 ^ 60) -ℤ directSum fine xs v) ≤ B * 2 ^ 60
 
@@ -36,11 +36,11 @@ unfoldable pub largestMagnitude : List ℤ → ℕ
 largestMagnitude [] = 0
 largestMagnitude (x ∷ xs) = max (natAbs x) (largestMagnitude xs)
 
--- the bound for the 2^P samples xs at their own M; in force is scale 32,768
+-- the bound for the 2^P samples xs at their own M, and at the scale in force, 32,768
 abbrev pub blockBound : ℕ → List ℤ → ℕ
 blockBound P xs = bound SCALE (largestMagnitude xs) P
 
 -- E for P = 1 to 10 (and 0 for P = 0), document 01's figures. They are `bound` at scale 32,768 and samples up to 32,768 (law `E-is-bound`), and no block
--- that forward takes has a larger bound (law `block-bound-E`, both in proofs/ForwardDistance).
+-- that forward takes has a larger bound (law `bound-E`, both in proofs/ForwardDistance).
 abbrev pub E : ℕ → ℕ
 E P = getD (0 ∷ 0 ∷ 0 ∷ 5 ∷ 22 ∷ 72 ∷ 213 ∷ 598 ∷ 1624 ∷ 4317 ∷ 11306 ∷ []) P 0

@@ -12,7 +12,7 @@ ghost use lib.ListN.{length};
 fn main() {
     // two and four samples, however loud
     bound_of(&[32767, -32768]);
-    bound_of(&[1, 2, 3, 4]);
+    bound_of(&[32767, -32768, 0, 0]);
     // eight: silent, quiet and at either limit
     bound_of(&[0, 0, 0, 0, 0, 0, 0, 0]);
     bound_of(&[1, 2, 3, -100, 5, 6, 7, 8]);

@@ -77,7 +77,7 @@ rows =
       given = map pos (strongestNumbers powers 5 4 ++ strongestNumbers powers 0 5 ++ strongestNumbers powers 6 5 ++ strongestNumbers powers 3 1 ++ nearestNumbers powers 5 (pos 9) ++ strongestNumbers (take 4 powers) 9 0);
       said = map pos (4 ∷ 5 ∷ 4 ∷ 5 ∷ 4 ∷ 6 ∷ 4 ∷ 3 ∷ 4 ∷ 5 ∷ 1 ∷ 0 ∷ []);
     }
-    -- document 02, Item 6: for M = 100 and P = 10 the bound is 2,083, of a block too whose one sample of that magnitude is -100
+    -- document 02, Item 6: for M = 100 and P = 10 the bound is 2,083, and so for a block whose loudest sample is a single -100
     ∷ record { given = map pos (bound SCALE 100 10 ∷ boundNumbers cake); said = pos 2083 ∷ pos 2083 ∷ [] }
     -- the bound for M = 100, and for M = 0, at P = 1 to 10
     ∷ record { given = map pos (tabulate 10 (λ j. bound SCALE 100 (suc j))); said = map pos (0 ∷ 0 ∷ 2 ∷ 7 ∷ 20 ∷ 52 ∷ 132 ∷ 332 ∷ 832 ∷ 2083 ∷ []) }
@@ -87,7 +87,7 @@ rows =
       given = map pos (largestMagnitude (pos 3 ∷ negℤ (pos 7) ∷ pos 5 ∷ []) ∷ largestMagnitude (negℤ (pos 32768) ∷ pos 32767 ∷ []) ∷ []);
       said = pos 7 ∷ pos 32768 ∷ [];
     }
-    -- 1 for three cells, loud or not, and 3 for a loud one of four
+    -- 1 for three cells, of which one is loud, and 3 for the first loud one of four
     ∷ record {
       given = map pos (boundNumbers (pos 40000 ∷ pos 1 ∷ pos 2 ∷ []) ++ boundNumbers (pos 1 ∷ pos 2 ∷ pos 32768 ∷ negℤ (pos 40000) ∷ []));
       said = map pos (1 ∷ 0 ∷ 3 ∷ 2 ∷ []);

@@ -137,7 +137,7 @@ pub struct Tally {
     forms: BTreeMap<(Call, &'static str), u64>,
     /// For each P the blocks measured, all of them, and those of each quiet M.
     measured: [Measured; 11],
-    quiet: [[Measured; 5]; 11],
+    quiet: [[Measured; QUIET.len()]; 11],
 }
 
 impl Tally {

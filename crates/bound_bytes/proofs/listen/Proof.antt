@@ -17,10 +17,10 @@ use Rattle.bound_bytes.proofs.listen.Statement.{statement}
 use Rattle.bound_bytes.proofs.listen.Tie as tie
 
 abbrev Inv-loop : tie.InvT-loop
-Inv-loop bytes cells largest₀ i₀ largest i = Going (cellsIn bytes) largest i
+Inv-loop bytes len largest₀ i₀ largest i = Going (cellsIn bytes) largest i
 
 abbrev μ-loop : tie.MeasureT-loop
-μ-loop bytes cells largest₀ i₀ largest i = cells - i
+μ-loop bytes len largest₀ i₀ largest i = len - i
 
 -- cell i, as it is read
 abbrev bytes-at : tie.At-loop Inv-loop μ-loop → List ℕ

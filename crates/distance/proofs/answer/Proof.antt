@@ -11,14 +11,14 @@ use Rattle.distance.specs.Inner.{answerBy}
 use Rattle.distance.proofs.answer.Statement.{statement}
 use Rattle.distance.proofs.answer.Tie as tie
 
-module _ (P cells samples M : ℕ) where
-  refused : samples < cells → {place : ℕ} → place ≡ samples → Refused (Loud place) ≡ answerBy P cells samples M
+module _ (P len samples M : ℕ) where
+  refused : samples < len → {place : ℕ} → place ≡ samples → Refused (Loud place) ≡ answerBy P len samples M
   unfolding answerBy
-  refused h e = rw (lt-ltb samples cells h, e) refl
+  refused h e = rw (lt-ltb samples len h, e) refl
 
-  bounded : cells ≤ samples → {B : ℕ} → B ≡ bound SCALE M P → Bound B ≡ answerBy P cells samples M
+  bounded : len ≤ samples → {B : ℕ} → B ≡ bound SCALE M P → Bound B ≡ answerBy P len samples M
   unfolding answerBy
-  bounded h e = rw (le-ltb samples cells h, e) refl
+  bounded h e = rw (le-ltb samples len h, e) refl
 
 bound-for-requires : tie.Need-bound-for-requires
 bound-for-requires c κs = c .before .pre (omega arith)

@@ -53,10 +53,10 @@ done : (q M P : ℕ) {B half level : ℕ} → Reached q M P B half level → P �
 done q M P {B} {half} {level} r h = ⊎-elim (λ e. r .is ∙ bound-early q M level (omega arith) ∙ sym (bound-early q M P (omega arith))) (λ l. r .is ∙ ap (bound q M) (omega arith)) (r .most)
 
 abbrev Inv-loop : tie.InvT-loop
-Inv-loop scale largest p bound₀ half₀ level₀ bound half level = Reached scale largest p bound half level
+Inv-loop scale largest p so-far₀ half₀ level₀ so-far half level = Reached scale largest p so-far half level
 
 abbrev μ-loop : tie.MeasureT-loop
-μ-loop scale largest p bound₀ half₀ level₀ bound half level = p - level
+μ-loop scale largest p so-far₀ half₀ level₀ so-far half level = p - level
 
 loop-holds : tie.Need-loop-holds Inv-loop μ-loop
 loop-holds c = begun _ _ _ (omega arith) (omega arith) (omega arith)
