@@ -1,4 +1,5 @@
--- Document 02's numbers in the packed answer of a call for a bound: the bound fits its seven bytes, and so does the place of a refusal.
+-- Document 02's numbers in the packed answer of a call for a bound: the bound fits its seven bytes, and so does the place of a refusal. So where nothing is
+-- refused, what is read from the answer is the bound of the block.
 -- Example: `bound-told xs e : unpackedBound answer ≡ boundNumbers xs`, with e : answer ≡ packedBound (boundAnswer xs).
 use mathlib.Core.Path.{_≡_, refl, sym, _∙_, ap}
 use mathlib.Core.Bool.{true≢false}

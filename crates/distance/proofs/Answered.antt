@@ -3,10 +3,10 @@
 use mathlib.Core.Path.{_≡_, refl, sym, _∙_, ap}
 use mathlib.Core.Bool.{Bool, true, false}
 use mathlib.Core.List.{List, []}
-use Prim.Native.Nat.{ℕ, zero, suc, _+_, _^_, _≤_, _<_}
+use Prim.Native.Nat.{ℕ, _+_, _^_, _≤_, _<_}
 use native.Mathlib.Nat.{mul-le-mul, mul-le-mul-right}
 use native.Mathlib.Omega.{arith}
-use borrow.Author.Tests.{le-ltb, ltb-false, ne-eqb}
+use borrow.Author.Tests.{le-ltb, ltb-false}
 use lib.Dec.{ltb}
 use lib.IntN.{ℤ}
 use lib.ListN.{length}
@@ -14,13 +14,13 @@ use lib.Pow.{pow-mono}
 use Rattle.ints.proofs.Powers.{same-power}
 use Rattle.kind.specs.declared.BlockKind.{BlockKind}
 use Rattle.kind.specs.declared.KindFound.the-variants.{Found, None}
-use Rattle.kind.specs.BlockKinds.{SCALE, exponent, kindOf}
+use Rattle.kind.specs.BlockKinds.{SCALE, kindOf}
 use Rattle.kind.specs.Loudness.{LEAST-SAMPLE, LARGEST-SAMPLE, LOUDEST-SAMPLE}
 use Rattle.refusal.specs.declared.Refusal.the-variants.{Length, Loud}
 use Rattle.block.specs.declared.BlockVerdict.{BlockVerdict}
 use Rattle.block.specs.declared.BlockVerdict.the-variants.{Taken, Refused as BlockRefused}
-use Rattle.block.specs.Tests.{firstLoud, misfit, refusedIf, tested, testedSamples}
-use Rattle.block.specs.TestTable.{firstGiven}
+use Rattle.block.specs.Tests.{misfit, refusedIf, tested, testedSamples}
+use Rattle.block.proofs.InNumbers.{numbers-by, numbersBy}
 use Rattle.block.proofs.Taken.{samples-quiet, taken-kind}
 use Rattle.spectrum.specs.Distance.{blockBound, largestMagnitude}
 use Rattle.spectrum.proofs.LargestMagnitude.{largest-least}
@@ -41,16 +41,15 @@ module _ (xs : List ℤ) where
   taken-bound kind e = let cells : 2 ^ kind .p ≤ 2 ^ 10 = pow-mono (taken-kind _ _ [] xs kind e .most) in
       omega (arith, bound-size SCALE (omega arith) (largestMagnitude xs) (kind .p), mul-le-mul-right (largestMagnitude xs + 1) (mul-le-mul cells cells), taken-largest kind e)
 
-  -- ---- in numbers, by the outcome of each test: whether P is 0, and whether a cell is loud
+  -- ---- in numbers: the block's bound where the tests have P
 
-  by-two : (P : ℕ) (loud : Bool) → exponent 10 (length xs) ≡ P → ltb (firstLoud LEAST-SAMPLE LARGEST-SAMPLE xs) (length xs) ≡ loud → boundAnswerNumbers (boundAnswer xs) ≡ boundNumbers xs
-  unfolding boundAnswer boundNumbers tested kindOf firstGiven misfit
-  by-two zero loud e f = rw e refl
-  by-two (suc m) true e f = rw (e, ne-eqb (suc m) 0 (λ z. omega arith), f) refl
-  by-two (suc m) false e f = rw (e, ne-eqb (suc m) 0 (λ z. omega arith), f) refl
+  by-bound : (k : BlockVerdict) → boundAnswerNumbers (boundTo xs k) ≡ numbersBy (λ P. blockBound P xs) k
+  by-bound (Taken kind) = refl
+  by-bound (BlockRefused refusal) = refl
 
   pub answered-numbers : {r : BoundAnswer} → r ≡ boundAnswer xs → (r ≡ boundAnswer xs) × (boundAnswerNumbers r ≡ boundNumbers xs)
-  answered-numbers e = (e, ap boundAnswerNumbers e ∙ by-two _ _ refl refl)
+  unfolding boundAnswer boundNumbers
+  answered-numbers e = (e, ap boundAnswerNumbers e ∙ by-bound (testedSamples xs) ∙ numbers-by (λ P. blockBound P xs) LEAST-SAMPLE LARGEST-SAMPLE [] xs)
 
   -- ---- by the kind that was found for its length, n, and by what was heard of it
 

@@ -22,13 +22,15 @@ Inv-loop bytes len largest₀ i₀ largest i = Going (cellsIn bytes) largest i
 abbrev μ-loop : tie.MeasureT-loop
 μ-loop bytes len largest₀ i₀ largest i = len - i
 
--- cell i, as it is read
+-- the lent bytes, at the loop
 abbrev bytes-at : tie.At-loop Inv-loop μ-loop → List ℕ
 bytes-at a = now (a .before .before .args .bytes)
 
+-- cell i is one that they spell, ..
 inside : (a : tie.In-loop Inv-loop μ-loop) → a .before .loop .i < length (cellsIn (bytes-at (a .before)))
 inside a = omega (arith, a .before .before .before .pre)
 
+-- .. and that one is read
 read : (r : tie.After-cell-at Inv-loop μ-loop) → toZ w64 (ofZ w64 (r .cell-at .result)) ≡ cell (cellsIn (bytes-at (r .before .before))) (r .before .before .loop .i)
 read r = toZ-ofZ (sfits-of (r .cell-at .ok)) ∙ r .cell-at .ensures ∙ cell-spelled (bytes-at (r .before .before)) _ (inside (r .before))
 

@@ -22,7 +22,7 @@ record Reached (q M P B half level : ℕ) : Type 0 where
 begun : (q M P : ℕ) {B half level : ℕ} → B ≡ 0 → half ≡ 4 → level ≡ 2 → Reached q M P B half level
 begun q M P e f g = record { least = omega arith; most = inl g; halved = rw (f, g) refl; is = rw g (e ∙ sym (bound-early q M 2 (omega arith))) }
 
--- another level
+-- one level more, where there is one; the numbers that it takes are small
 module _ (q M P : ℕ) {B half level : ℕ} (r : Reached q M P B half level) (h : level < P) where
   next : {B' half' level' : ℕ} → B' ≡ ceiling (5 * B) 2 + ceiling (half * M) q + 1 → half' ≡ 2 * half → level' ≡ suc level → Reached q M P B' half' level'
   next e f g = rw g (record {
@@ -32,20 +32,20 @@ module _ (q M P : ℕ) {B half level : ℕ} (r : Reached q M P B half level) (h 
     is = e ∙ rw (r .is, r .halved) (sym (bound-next q M level (r .least)));
   })
 
-  few : P ≤ 10 → half ≤ 2 ^ 9
-  few most = rw (r .halved) (pow-mono {j = 9} (omega arith))
+  few : P ≤ 10 → 2 ^ level ≤ 2 ^ 9
+  few most = pow-mono {j = 9} (omega arith)
+
+  can-double : P ≤ 10 → half ≤ 2 ^ 9
+  can-double most = rw (r .halved) (few most)
 
   small : 0 < q → P ≤ 10 → B ≤ 2 ^ 9 * 2 ^ 9 * (M + 1)
-  small some most = rw (r .is) (le-trans (bound-size q some M level) (mul-le-mul-right (M + 1) (mul-le-mul few-cells few-cells)))
-    where
-      few-cells : 2 ^ level ≤ 2 ^ 9
-      few-cells = pow-mono {j = 9} (omega arith)
+  small some most = rw (r .is) (le-trans (bound-size q some M level) (mul-le-mul-right (M + 1) (mul-le-mul (few most) (few most))))
 
   can-step : CanBound q M P → CanStep q (half * M) B
   can-step c = record {
     some = c .some;
     scale = c .scale;
-    products = omega (arith, mul-le-mul-right M (few (c .most)), c .quiet);
+    products = omega (arith, mul-le-mul-right M (can-double (c .most)), c .quiet);
     bounds = omega (arith, small (c .some) (c .most), c .quiet);
   }
 
@@ -68,7 +68,7 @@ next-bound-requires : tie.Need-next-bound-requires Inv-loop μ-loop
 next-bound-requires c κs = can-step _ _ _ (c .before .loop .inv) (omega arith) (c .before .before .pre)
 
 mul-half : tie.Need-mul-half Inv-loop μ-loop
-mul-half c = omega (arith, few _ _ _ (c .before .before .loop .inv) (omega arith) (c .before .before .before .pre .most))
+mul-half c = omega (arith, can-double _ _ _ (c .before .before .loop .inv) (omega arith) (c .before .before .before .pre .most))
 
 add-level : tie.Need-add-level Inv-loop μ-loop
 add-level c = omega (arith, c .before .before .before .pre .most)
