@@ -3,8 +3,8 @@
  * DHT where it is installed. Prints tables in Markdown. Usage:
  *   bench FOLDER LIST LISTER EMPTY: times all; a folder for traces, the listing program, the one in C and a program that
  *     does nothing.
- *   bench calls forward|backward archive|C P TIMES: calls one contender so many times and prints nothing, for a count of
- *     its instructions.
+ *   bench calls forward|backward archive|C P TIMES, bench calls smooth archive|plain|scattered P TIMES: calls one
+ *     contender so many times and prints nothing, for a count of its instructions.
  *   bench trace P FILE: writes the longest trace with blocks of that P.
  */
 #define _POSIX_C_SOURCE 200809L
@@ -295,16 +295,6 @@ static void set_block(size_t p, int forward)
         for (size_t v = 0; v < n; v++)
             set_fresh(v, warm_cells[v]);
     }
-}
-
-/* Calls one contender so many times. */
-static void call_only(const char *direction, const char *side, size_t p, long times)
-{
-    int forward = strcmp(direction, "forward") == 0, archive = strcmp(side, "archive") == 0;
-    void (*call)(void) = forward ? archive ? archive_forward : rule_c_forward : archive ? archive_backward : rule_c_backward;
-    set_block(p, forward);
-    for (long i = 0; i < times; i++)
-        call();
 }
 
 /* One direction for all lengths. */
@@ -797,6 +787,96 @@ static void time_bounds(void)
         time_bound(ps[i]);
 }
 
+/* Smoothing: each call gets a fresh copy of the block, as forward does. All read the same weights. */
+
+static int64_t weight_cells[LARGEST];
+
+static void archive_smooth(void)
+{
+    memcpy(warm_bytes, fresh_bytes, CELL * n);
+    if (hartley_smooth(warm_bytes, CELL * n, (const uint8_t *)weight_cells, CELL * n) != 0)
+        fail("the archive's smoothing refuses");
+}
+
+static void plain_c_smooth(void)
+{
+    memcpy(warm_cells, fresh_cells, CELL * n);
+    if (rule_smooth_plain(warm_cells, n, weight_cells, n) != 0)
+        fail("the plain smoothing refuses");
+}
+
+static void scattered_c_smooth(void)
+{
+    memcpy(warm_cells, fresh_cells, CELL * n);
+    if (rule_smooth_scattered(warm_cells, n, weight_cells, n) != 0)
+        fail("the scattered smoothing refuses");
+}
+
+/* A fresh block of 2^p random samples, and as many random weights: each may have its share of 32,767, of either sign. */
+static void set_smoothing(size_t p)
+{
+    set_block(p, 1);
+    const int64_t share = INT16_MAX / (int64_t)n;
+    for (size_t i = 0; i < n; i++)
+        weight_cells[i] = noise() % (2 * share + 1) - share;
+}
+
+static void time_smooths(void)
+{
+    double before = 0;
+    printf("\nSmooth, ns per call (best / median); C is the better of plain and scattered; growth of the archive's best per doubling"
+           " of N:\n");
+    print_head(" P | N | archive | plain | scattered | archive/C | C/archive | A/A | spread | growth |");
+    for (size_t p = 1; p <= 10; p++) {
+        struct contender list[4] = {
+            {.call = archive_smooth},
+            {.call = archive_smooth},
+            {.call = plain_c_smooth},
+            {.call = scattered_c_smooth},
+        };
+        set_smoothing(p);
+        archive_smooth();
+        for (int i = 2; i < 4; i++) {
+            list[i].call();
+            expect_same(warm_bytes, warm_cells, n);
+        }
+        measure(list, 4);
+        const double ratio = fmax(list[2].ratio, list[3].ratio);
+        printf("| %zu | %zu |", p, n);
+        print_times(list, 4, 1);
+        printf(" %.2f | %.2f |", ratio, 1 / ratio);
+        print_end(list, 4, before);
+        before = list[0].best;
+    }
+}
+
+/* Instructions */
+
+/* Calls one contender so many times. */
+static void call_only(const char *name, const char *side, size_t p, long times)
+{
+    static const struct { const char *name, *side; void (*call)(void); } counted[] = {
+        {"forward", "archive", archive_forward},
+        {"forward", "C", rule_c_forward},
+        {"backward", "archive", archive_backward},
+        {"backward", "C", rule_c_backward},
+        {"smooth", "archive", archive_smooth},
+        {"smooth", "plain", plain_c_smooth},
+        {"smooth", "scattered", scattered_c_smooth},
+    };
+    if (strcmp(name, "smooth") == 0)
+        set_smoothing(p);
+    else
+        set_block(p, strcmp(name, "forward") == 0);
+    for (size_t k = 0; k < sizeof counted / sizeof counted[0]; k++)
+        if (strcmp(counted[k].name, name) == 0 && strcmp(counted[k].side, side) == 0) {
+            for (long i = 0; i < times; i++)
+                counted[k].call();
+            return;
+        }
+    fail("no such contender");
+}
+
 /* Listings */
 
 static char trace_path[4096], text_path[2][4096];
@@ -892,7 +972,7 @@ int main(int count, char **words)
         return 0;
     }
     if (count != 5)
-        fail("usage: bench FOLDER LIST LISTER EMPTY | bench calls forward|backward archive|C P TIMES | bench trace P FILE");
+        fail("usage: bench FOLDER LIST LISTER EMPTY | bench calls CALL SIDE P TIMES | bench trace P FILE");
     snprintf(trace_path, sizeof trace_path, "%s/trace", words[1]);
     snprintf(text_path[0], sizeof text_path[0], "%s/text_0", words[1]);
     snprintf(text_path[1], sizeof text_path[1], "%s/text_1", words[1]);
@@ -904,9 +984,10 @@ int main(int count, char **words)
     time_checks();
     time_fetches();
     time_listings();
-    time_searches();    /* these three last, so that the random inputs of the others stay those of earlier runs */
+    time_searches();    /* these four last, so that the random inputs of the others stay those of earlier runs */
     time_saves();
     time_bounds();
+    time_smooths();
     printf("\nA/A, the same contender timed twice, was from %.2f to %.2f in this run.\n", lowest, highest);
     return 0;
 }

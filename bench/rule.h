@@ -1,7 +1,7 @@
 /*
- * The level rule, its bound, the search of powers, the trace check and the saving of a trace in C, written from the
- * project's papers and not from the engine, which is measured against them. Answers are packed as in hartley.h, so that
- * both can be compared.
+ * The level rule, its bound, smoothing, the search of powers, the trace check and the saving of a trace in C, written
+ * from the project's papers and not from the engine, which is measured against them. Answers are packed as in
+ * hartley.h, so that both can be compared.
  */
 #ifndef RULE_H
 #define RULE_H
@@ -26,6 +26,12 @@ uint64_t rule_scaled(const int64_t *spectrum, size_t n, size_t line, double *rea
    the same, but tests and takes cell by cell. */
 uint64_t rule_bound(const int64_t *cells, size_t n);
 uint64_t rule_bound_plain(const int64_t *cells, size_t n);
+
+/* Smooths the n cells in place by so many weights, by the plain sum and not by spectra. The plain one makes one sum
+   after another. The scattered one answers and leaves the same, but adds the products of one cell after another to all
+   sums, of which the compiler makes vectors. */
+uint64_t rule_smooth_plain(int64_t *cells, size_t n, const int64_t *weights, size_t count);
+uint64_t rule_smooth_scattered(int64_t *cells, size_t n, const int64_t *weights, size_t count);
 
 /* The search of a list of so many powers. Strongest takes four lines at a time, nearest looks outwards from the chosen
    line. The scans find the same: they go through the band or the list line by line and keep the best. */

@@ -1,9 +1,9 @@
 /*
  * How a host in C uses the spectrum engine, and reads and saves traces. Start with mean_frequency, the first use below,
- * from end to end; nearest_frequency is another, lines_beyond_bound a third, and save_samples with fetch_samples a
- * fourth. After them each entry is called on tables of cases; its answer, and the cells and scaled lines of the blocks
- * worked by hand, are shown and compared. Saved traces are compared byte by byte. Ends with "demo: ok", or with what
- * went wrong and exit status 1.
+ * from end to end; nearest_frequency is another, lines_beyond_bound a third, smooth_block a fourth, and save_samples
+ * with fetch_samples a fifth. After them each entry is called on tables of cases; its answer, and the cells and scaled
+ * lines of the blocks worked by hand, are shown and compared. Saved traces are compared byte by byte, and smoothed
+ * blocks with the plain sum. Ends with "demo: ok", or with what went wrong and exit status 1.
  */
 #include "hartley.h"
 
@@ -126,6 +126,30 @@ static int lines_beyond_bound(const uint8_t *trace, size_t trace_bytes, size_t k
     return lines;
 }
 
+/* Fills the cells with block k of a trace, smoothed: each sample counts twice, those beside it once. Shows them divided
+   by 4, the sum of the weights. Cyclically the first and the last sample are beside each other. Answers whether no call
+   has refused. */
+static int smooth_block(const uint8_t *trace, size_t trace_bytes, size_t k, int64_t *cells)
+{
+    int64_t weights[HARTLEY_LARGEST_BLOCK] = {2};
+    uint64_t checked = hartley_check(trace, trace_bytes);
+    if (refused("check", checked))
+        return 0;
+    size_t n = (size_t)1 << hartley_p(checked), cells_bytes = n * HARTLEY_CELL_BYTES;
+    if (refused("fetch", hartley_fetch(trace, trace_bytes, k, (uint8_t *)cells, cells_bytes)))
+        return 0;
+    weights[1] += 1;     /* of the moment before */
+    weights[n - 1] += 1; /* of the moment after, which is the same one where n is 2 */
+    /* the smoothed cells take the place of the samples */
+    if (refused("smooth", hartley_smooth((uint8_t *)cells, cells_bytes, (const uint8_t *)weights, cells_bytes)))
+        return 0;
+    printf("block %zu, smoothed:", k);
+    for (size_t t = 0; t < n; t++)
+        printf(" %g", (double)cells[t] / 4);
+    printf("\n");
+    return 1;
+}
+
 /* Saves samples, 2^p to a block, and shows how many bytes the trace has. HARTLEY_LONGEST_TRACE bytes are lent for it,
    which are never too few. Answers how many of them a host writes to its file, or 0 where the call refuses. */
 static size_t save_samples(size_t rate, size_t p, const int64_t *samples, size_t count, uint8_t *trace)
@@ -239,6 +263,100 @@ static const struct bound {
     {"bound, cell 1023 is -32769", 1024 * CELL, 1, 1023, -32769, HARTLEY_LOUD, 1023},
     {"bound, cell 600 is 2^63 - 1", 1024 * CELL, 1, 600, INT64_MAX, HARTLEY_LOUD, 600},
     {"bound, cell 0 is -2^63", 8 * CELL, 1, 0, INT64_MIN, HARTLEY_LOUD, 0},
+};
+
+/* Blocks smoothed by hand: samples, weights, and what takes the place of the samples. */
+static const struct smoothed {
+    size_t n;
+    int64_t samples[8], weights[8], cells[8];
+} smoothed[] = {
+    {2, {0, 0}, {32767, 0}, {0, 0}},
+    {2, {3, -5}, {2, 1}, {1, -7}},
+    /* the loudest of either sign */
+    {2, {-32768, -32768}, {32767, 0}, {-1073709056, -1073709056}},
+    {2, {-32768, -32768}, {-16384, -16383}, {1073709056, 1073709056}},
+    {2, {-32768, 32767}, {16384, -16383}, {-1073692673, 1073692672}},
+    /* the block itself, its negative, the block one moment later, one moment earlier, and its sum */
+    {4, {1, 2, 3, 4}, {1, 0, 0, 0}, {1, 2, 3, 4}},
+    {4, {1, 2, 3, 4}, {-1, 0, 0, 0}, {-1, -2, -3, -4}},
+    {4, {1, 2, 3, 4}, {0, 1, 0, 0}, {4, 1, 2, 3}},
+    {4, {1, 2, 3, 4}, {0, 0, 0, 1}, {2, 3, 4, 1}},
+    {4, {1, 2, 3, 4}, {1, 1, 1, 1}, {10, 10, 10, 10}},
+    {4, {1, 2, 3, 4}, {1, 2, -3, 0}, {0, -8, 4, 4}},
+    {8, {1, 2, 3, 4, 5, 6, 7, 8}, {2, 1, 0, 0, 0, 0, 0, 1}, {12, 8, 12, 16, 20, 24, 28, 24}},
+    {8, {1, 2, 3, 4, 5, 6, 7, 8}, {0, 0, 0, 0, 0, 0, 0, 0}, {0, 0, 0, 0, 0, 0, 0, 0}},
+    {8, {0, 1, 0, 0, 0, 0, 0, 0}, {1, 2, 3, 4, 5, 6, 7, 8}, {8, 1, 2, 3, 4, 5, 6, 7}},
+};
+
+/* Blocks of cells 1, 2, 3 and so on, but the one at its place, smoothed by weights that are all the same, but the one
+   at its place: the refusal and its place, or 0. */
+static const struct smoothing {
+    const char *what;
+    size_t bytes, at;
+    int64_t cell;
+    size_t weights_bytes;
+    int64_t others;
+    size_t weight_at;
+    int64_t weight;
+    uint64_t number, place;
+} smoothings[] = {
+    {"smooth, 2 cells by -3 and 2", 2 * CELL, 0, 1, 2 * CELL, 2, 0, -3, 0, 0},
+    {"smooth, 16 cells by 1, but weight 5 is -9", 16 * CELL, 0, 1, 16 * CELL, 1, 5, -9, 0, 0},
+    {"smooth, 32 cells by 1, but weight 31 is 7", 32 * CELL, 9, -100, 32 * CELL, 1, 31, 7, 0, 0},
+    {"smooth, 64 cells by -1, but weight 1 is 5", 64 * CELL, 63, -32768, 64 * CELL, -1, 1, 5, 0, 0},
+    {"smooth, 128 cells by 255, but weight 0 is 382", 128 * CELL, 0, 32767, 128 * CELL, 255, 0, 382, 0, 0},
+    {"smooth, 256 cells by -128, but weight 255 is 127", 256 * CELL, 128, -32768, 256 * CELL, -128, 255, 127, 0, 0},
+    {"smooth, 512 cells by 1, but weight 300 is 32256", 512 * CELL, 1, 32767, 512 * CELL, 1, 300, 32256, 0, 0},
+    {"smooth, 1024 cells by weight 1023, which is 1", 1024 * CELL, 0, 1, 1024 * CELL, 0, 1023, 1, 0, 0},
+    {"smooth, 1024 cells by -31, but weight 0 is 1054", 1024 * CELL, 0, 1, 1024 * CELL, -31, 0, 1054, 0, 0},
+    {"smooth, cell 0 is -32768, by weight 7, which is -32767", 1024 * CELL, 0, -32768, 1024 * CELL, 0, 7, -32767, 0, 0},
+    {"smooth, cell 7 is -32768, by weight 3, which is 32767", 8 * CELL, 7, -32768, 8 * CELL, 0, 3, 32767, 0, 0},
+    {"smooth, 8 cells by 4096, but weight 2 is 4095", 8 * CELL, 0, 1, 8 * CELL, 4096, 2, 4095, 0, 0},
+    {"smooth, 0 cells", 0, 0, 1, 0, 0, 0, 0, HARTLEY_LENGTH, 0},
+    {"smooth, 1 cell", CELL, 0, 1, CELL, 0, 0, 1, HARTLEY_LENGTH, 0},
+    {"smooth, 3 cells", 3 * CELL, 0, 1, 3 * CELL, 0, 0, 1, HARTLEY_LENGTH, 0},
+    {"smooth, 2048 cells", 2048 * CELL, 0, 1, 2048 * CELL, 0, 0, 1, HARTLEY_LENGTH, 0},
+    {"smooth, 8 cells and a byte", 8 * CELL + 1, 0, 1, 8 * CELL, 0, 0, 1, HARTLEY_LENGTH, 0},
+    {"smooth, 8 cells and a byte, by 8 and a byte", 8 * CELL + 1, 0, 1, 8 * CELL + 1, 0, 0, 1, HARTLEY_LENGTH, 0},
+    {"smooth, 2 cells less a byte", 2 * CELL - 1, 0, 1, 2 * CELL, 0, 0, 1, HARTLEY_LENGTH, 0},
+    {"smooth, 8 cells by no weights", 8 * CELL, 0, 1, 0, 0, 0, 0, HARTLEY_MISFIT, 0},
+    {"smooth, 8 cells by 4 weights", 8 * CELL, 0, 1, 4 * CELL, 0, 0, 1, HARTLEY_MISFIT, 0},
+    {"smooth, 8 cells by 7 weights", 8 * CELL, 0, 1, 7 * CELL, 0, 0, 1, HARTLEY_MISFIT, 0},
+    {"smooth, 8 cells by 9 weights", 8 * CELL, 0, 1, 9 * CELL, 0, 0, 1, HARTLEY_MISFIT, 0},
+    {"smooth, 8 cells by 16 weights", 8 * CELL, 0, 1, 16 * CELL, 0, 0, 1, HARTLEY_MISFIT, 0},
+    {"smooth, 8 cells by 8 weights and a byte", 8 * CELL, 0, 1, 8 * CELL + 1, 0, 0, 1, HARTLEY_MISFIT, 0},
+    {"smooth, 8 cells by 8 weights less a byte", 8 * CELL, 0, 1, 8 * CELL - 1, 0, 0, 1, HARTLEY_MISFIT, 0},
+    {"smooth, 1024 cells by 1025 weights", 1024 * CELL, 0, 1, 1025 * CELL, 0, 0, 1, HARTLEY_MISFIT, 0},
+    {"smooth, cell 5 is 32768", 8 * CELL, 5, 32768, 8 * CELL, 0, 0, 1, HARTLEY_LOUD, 5},
+    {"smooth, cell 7 is -32769", 8 * CELL, 7, -32769, 8 * CELL, 0, 0, 1, HARTLEY_LOUD, 7},
+    {"smooth, cell 0 is -2^63", 8 * CELL, 0, INT64_MIN, 8 * CELL, 0, 0, 1, HARTLEY_LOUD, 0},
+    {"smooth, cell 1023 is 2^63 - 1, by weights of 0", 1024 * CELL, 1023, INT64_MAX, 1024 * CELL, 0, 0, 0,
+     HARTLEY_LOUD, 1023},
+    {"smooth, weight 5 is 32768", 8 * CELL, 0, 1, 8 * CELL, 0, 5, 32768, HARTLEY_WEIGHTS, 5},
+    {"smooth, weight 5 is -32768", 8 * CELL, 0, 1, 8 * CELL, 0, 5, -32768, HARTLEY_WEIGHTS, 5},
+    {"smooth, weight 0 is 65536", 8 * CELL, 0, 1, 8 * CELL, 0, 0, 65536, HARTLEY_WEIGHTS, 0},
+    {"smooth, 8 cells by 4096", 8 * CELL, 0, 1, 8 * CELL, 4096, 0, 4096, HARTLEY_WEIGHTS, 7},
+    {"smooth, 8 cells by -16384", 8 * CELL, 0, 1, 8 * CELL, -16384, 0, -16384, HARTLEY_WEIGHTS, 1},
+    {"smooth, 8 cells by 16384, but weight 1 is -16384", 8 * CELL, 0, 1, 8 * CELL, 16384, 1, -16384,
+     HARTLEY_WEIGHTS, 1},
+    {"smooth, 1024 cells by -31, but weight 0 is 1055", 1024 * CELL, 0, 1, 1024 * CELL, -31, 0, 1055,
+     HARTLEY_WEIGHTS, 1023},
+    {"smooth, 1024 cells by 40", 1024 * CELL, 0, 1, 1024 * CELL, 40, 0, 40, HARTLEY_WEIGHTS, 819},
+    /* magnitudes whose sum no cell holds, or that no cell holds themselves */
+    {"smooth, 2 cells by -2^63", 2 * CELL, 0, 1, 2 * CELL, INT64_MIN, 0, INT64_MIN, HARTLEY_WEIGHTS, 0},
+    {"smooth, 2 cells by 2^63 - 1", 2 * CELL, 0, 1, 2 * CELL, INT64_MAX, 0, INT64_MAX, HARTLEY_WEIGHTS, 0},
+    {"smooth, 8 cells by -2^63, but weight 0 is 32767", 8 * CELL, 0, 1, 8 * CELL, INT64_MIN, 0, 32767,
+     HARTLEY_WEIGHTS, 1},
+    {"smooth, 8 cells by 1, but weight 7 is -2^63", 8 * CELL, 0, 1, 8 * CELL, 1, 7, INT64_MIN, HARTLEY_WEIGHTS, 7},
+    {"smooth, 1024 cells by 1, but weight 1023 is 2^63 - 1", 1024 * CELL, 0, 1, 1024 * CELL, 1, 1023, INT64_MAX,
+     HARTLEY_WEIGHTS, 1023},
+    /* every two of the four faults at once: the one that is tested first decides */
+    {"smooth, 3 cells by 2 weights", 3 * CELL, 0, 1, 2 * CELL, 0, 0, 1, HARTLEY_LENGTH, 0},
+    {"smooth, 3 cells, cell 2 is 32768", 3 * CELL, 2, 32768, 3 * CELL, 0, 0, 1, HARTLEY_LENGTH, 0},
+    {"smooth, 3 cells, weight 1 is 32768", 3 * CELL, 0, 1, 3 * CELL, 0, 1, 32768, HARTLEY_LENGTH, 0},
+    {"smooth, 8 cells by 7 weights, cell 5 is 32768", 8 * CELL, 5, 32768, 7 * CELL, 0, 0, 1, HARTLEY_MISFIT, 0},
+    {"smooth, 8 cells by 7 weights, weight 1 is 32768", 8 * CELL, 0, 1, 7 * CELL, 0, 1, 32768, HARTLEY_MISFIT, 0},
+    {"smooth, cell 5 is 32768, weight 1 is 32768", 8 * CELL, 5, 32768, 8 * CELL, 0, 1, 32768, HARTLEY_LOUD, 5},
 };
 
 /* Blocks at the limits and beyond: cells 1, 2, 3 and so on, but the one at the place. A number of 0 is accepted. The
@@ -671,6 +789,48 @@ static void show_bound(const struct bound *row)
     take_back(samples, row->number != 0 || (row->others == 0 && row->cell == 0));
 }
 
+/* A block smoothed by hand. The weights are left as they were. */
+static void show_smoothed(const struct smoothed *row)
+{
+    size_t bytes = CELL * row->n;
+    uint8_t *cells = new_list(bytes), *weights = new_list(bytes);
+    for (size_t t = 0; t < row->n; t++) {
+        put_cell(cells + CELL * t, row->samples[t]);
+        put_cell(weights + CELL * t, row->weights[t]);
+    }
+    expect_cells("block", 0, cells, row->samples, row->n);
+    uint64_t answer = hartley_smooth(cells, bytes, weights, bytes);
+    expect_cells("  weights", answer, weights, row->weights, row->n);
+    expect_cells("  smoothed", answer, cells, row->cells, row->n);
+    free(cells);
+    free(weights);
+}
+
+/* The plain sum at moment t: over the moments u, of sample(u) times weight((t - u) mod n). */
+static int64_t plain_sum(const uint8_t *samples, const uint8_t *weights, size_t n, size_t t)
+{
+    int64_t sum = 0;
+    for (size_t u = 0; u < n; u++)
+        sum += get_cell(samples + CELL * u) * get_cell(weights + CELL * ((t + n - u) % n));
+    return sum;
+}
+
+/* A block smoothed, or refused: then it is left as it was. The weights always are. */
+static void show_smoothing(const struct smoothing *row)
+{
+    const size_t n = row->bytes / CELL;
+    struct lent cells = lend(new_block(row->bytes, row->at, row->cell), row->bytes);
+    struct lent weights = lend(new_flat_block(row->weights_bytes, row->others, row->weight_at, row->weight),
+                               row->weights_bytes);
+    uint64_t answer = hartley_smooth(cells.list, cells.bytes, weights.list, weights.bytes);
+    expect(row->what, answer, row->number, row->place);
+    for (size_t t = 0; row->number == 0 && t < n; t++)
+        if (answer != 0 || get_cell(cells.list + CELL * t) != plain_sum(cells.before, weights.list, n, t))
+            fail("another answer or other cells were expected");
+    take_back(cells, row->number != 0);
+    take_back(weights, 1);
+}
+
 /* A block at the limits or beyond. Where it is refused, all that was lent is left as it was. What parts and power read
    always is. */
 static void show_limit(const struct limit *row)
@@ -893,6 +1053,9 @@ static void show_saving(void)
    block that the trace has not. */
 static void show_uses(void)
 {
+    static const int64_t one_wave[8] = {342, 242, 0, -242, -342, -242, 0, 242};
+    static const int64_t two_waves[8] = {720, 520, 320, 520, 720, 520, 320, 520};
+    int64_t cells[HARTLEY_LARGEST_BLOCK];
     if (mean_frequency(biscuit, sizeof biscuit) != 1500)
         fail("another frequency was expected");
     if (mean_frequency(biscuit, sizeof biscuit - 1) != -1)
@@ -907,6 +1070,12 @@ static void show_uses(void)
         fail("another number of lines was expected");
     if (lines_beyond_bound(biscuit, sizeof biscuit, 2) != -1)
         fail("a refusal was expected");
+    if (!smooth_block(biscuit, sizeof biscuit, 0, cells) || memcmp(cells, one_wave, sizeof one_wave) != 0)
+        fail("other cells were expected");
+    if (!smooth_block(biscuit, sizeof biscuit, 1, cells) || memcmp(cells, two_waves, sizeof two_waves) != 0)
+        fail("other cells were expected");
+    if (smooth_block(biscuit, sizeof biscuit, 2, cells))
+        fail("a refusal was expected");
 }
 
 int main(void)
@@ -918,6 +1087,10 @@ int main(void)
         show_worked(&worked[i]);
     for (size_t i = 0; i < COUNT(bounds); i++)
         show_bound(&bounds[i]);
+    for (size_t i = 0; i < COUNT(smoothed); i++)
+        show_smoothed(&smoothed[i]);
+    for (size_t i = 0; i < COUNT(smoothings); i++)
+        show_smoothing(&smoothings[i]);
     for (size_t i = 0; i < COUNT(limits); i++)
         show_limit(&limits[i]);
     for (size_t i = 0; i < COUNT(line_limits); i++)

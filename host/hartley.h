@@ -30,7 +30,8 @@
  * only the version does. Which traces are accepted, all places and every other answer are as they were in version 2.
  * Version 4 has one call more, hartley_save, and one that reads its answer, hartley_used; all of version 3 is as it
  * was. Version 5 has one call more, hartley_bound, and one that reads its answer, hartley_distance; all of version 4 is
- * as it was, and forward keeps within the bound, which is at most what it kept within before.
+ * as it was, and forward keeps within the bound, which is at most what it kept within before. Version 6 has one call
+ * more, hartley_smooth, and one refusal more, 20; all of version 5 is as it was.
  */
 #ifndef HARTLEY_H
 #define HARTLEY_H
@@ -39,7 +40,7 @@
 #include <stdint.h>
 
 /* Counts one up with every new call, and every change to a signature, an answer or a refusal. */
-#define HARTLEY_VERSION 5
+#define HARTLEY_VERSION 6
 /* The bytes of a cell. */
 #define HARTLEY_CELL_BYTES 8
 /* The largest block, in cells. Parts and powers have HARTLEY_LARGEST_BLOCK / 2 + 1 at most. */
@@ -55,21 +56,22 @@ extern "C" {
 #endif
 
 /*
- * Refused input. Block calls, and the searches strongest and nearest, test 1, 2, 3 and 4 in turn. A trace is tested for
- * 10; then each record for 11 (six bytes), 12, 17, 18, 14, 11 (payload), 15; the first fault found decides. A byte
- * after the end, 19, is looked for last, once the end's own length has passed 14. A fetch then tests 16, then 2. A save
- * tests 15, 1, 3, 10 and 2 in turn. docs/TRACES.md, for makers of recorders, explains each refusal of a trace by an
- * example.
+ * Refused input. Block calls, and the searches strongest and nearest, test 1, 2, 3 and 4 in turn; smooth tests 1, 2, 3
+ * and 20. A trace is tested for 10; then each record for 11 (six bytes), 12, 17, 18, 14, 11 (payload), 15; the first
+ * fault found decides. A byte after the end, 19, is looked for last, once the end's own length has passed 14. A fetch
+ * then tests 16, then 2. A save tests 15, 1, 3, 10 and 2 in turn. docs/TRACES.md, for makers of recorders, explains
+ * each refusal of a trace by an example.
  */
 enum hartley_refusal {
     HARTLEY_OK = 0,      /* nothing is refused */
     HARTLEY_LENGTH = 1,  /* block is not 2 to 1,024 cells and a power of two, or a list that is searched is not N/2 + 1
                             cells for such an N, or a run that is saved is not a whole number of blocks, or its count of
                             bytes is no multiple of eight; place 0 */
-    HARTLEY_MISFIT = 2,  /* fetch: a lent output not N cells; parts, power: not N/2 + 1; all three: its count of bytes
-                            is no multiple of eight; save: fewer lent bytes than the trace has; place 0 */
-    HARTLEY_LOUD = 3,    /* forward, bound, save: a cell outside -32,768 to 32,767; any call that takes a spectrum:
-                            outside +-2^28; place the first such cell */
+    HARTLEY_MISFIT = 2,  /* fetch: a lent output not N cells; parts, power: not N/2 + 1; smooth: the weights not N
+                            cells; all four: their count of bytes is no multiple of eight; save: fewer lent bytes
+                            than the trace has; place 0 */
+    HARTLEY_LOUD = 3,    /* forward, bound, smooth, save: a sample outside -32,768 to 32,767; any call that takes a
+                            spectrum: a cell outside +-2^28; place the first such cell */
     HARTLEY_LINE = 4,    /* a line above N/2: that of scaled, the chosen one of nearest, low of strongest, or else high;
                             place that line; then low of strongest above high; place low */
     HARTLEY_LONG = 10,   /* trace above 65,536 bytes, be it lent or to be saved; place 0 */
@@ -82,7 +84,9 @@ enum hartley_refusal {
     HARTLEY_ABSENT = 16, /* fetch of block k, k not below the count; place k */
     HARTLEY_HEADLESS = 17,    /* first record is not a head; place 0, its first byte */
     HARTLEY_SECOND_HEAD = 18, /* second head; place its first byte */
-    HARTLEY_TAIL = 19         /* a byte after the end; place that byte */
+    HARTLEY_TAIL = 19,        /* a byte after the end; place that byte */
+    HARTLEY_WEIGHTS = 20      /* smooth: the magnitudes of the weights add to more than 32,767; place the first weight
+                                 at which the running sum passes it */
 };
 
 /* The cases of a scaled line, by the line asked for. */
@@ -111,6 +115,14 @@ uint64_t hartley_bound(const uint8_t *cells, size_t cells_bytes);
 /* The block of a spectrum, in place of the spectrum. Answers 0, or a refusal: 1 or 3. The negative of a spectrum gets
    the same answer and the negative block. */
 uint64_t hartley_backward(uint8_t *cells, size_t cells_bytes);
+
+/* A block of N samples smoothed by N weights, cyclically and with no rounding, in place of the samples: at moment t
+   stands the sum, over the moments u from 0 to N - 1, of sample(u) times weight((t - u) mod N). So weight 0 is that of
+   the moment itself, weight 1 that of the moment before it, and weight N - 1 that of the moment after it. The weights
+   are kept. They may have either sign, and their magnitudes add to 32,767 at most. So every smoothed cell is between
+   -(2^30 - 1) and 2^30 - 1: its magnitude is at most 32,768 times 32,767, which is 1,073,709,056. Nothing is divided by
+   the sum of the weights. Answers 0, or a refusal, here in the order of the tests: 1, 2, 3 or 20. */
+uint64_t hartley_smooth(uint8_t *cells, size_t cells_bytes, const uint8_t *weights, size_t weights_bytes);
 
 /* The doubled real and imaginary parts of lines 0 to N/2 of a spectrum H of N cells, each N/2 + 1 cells: H(v) + H(N-v)
    and H(N-v) - H(v), with H(N) read as H(0). Answers 0, or a refusal: 1, 2 or 3. */
@@ -157,7 +169,8 @@ uint64_t hartley_save(size_t rate, size_t p, const uint8_t *cells, size_t cells_
  * Answers read. An answer has eight bytes, here with the least first.
  *
  *     the answer of                            byte 0    byte 1    bytes 2, 3    bytes 4 to 7
- *     forward, backward, parts, power, done    0         0         0             0
+ *     forward, backward, smooth, done          0         0         0             0
+ *     parts, power, done                       0         0         0             0
  *     bound, done                              0         bound, in seven bytes
  *     scaled, done                             0         case      0             0
  *     strongest, nearest, a line found         0         1         line          0
@@ -173,9 +186,9 @@ uint64_t hartley_save(size_t rate, size_t p, const uint8_t *cells, size_t cells_
 /* Of any answer, byte 0: HARTLEY_OK, or the number of the refusal. */
 uint64_t hartley_number(uint64_t answer);
 
-/* Of a refusal, bytes 1 to 7: its place, a cell of the block or of the run, a byte of the trace, or the line or block
-   asked for. Of the place of 4 and 16, which the host gave itself, the highest of eight bytes is left off where it is
-   not 0. Every other place is whole. */
+/* Of a refusal, bytes 1 to 7: its place, a cell of the block or of the run, a weight, a byte of the trace, or the line
+   or block asked for. Of the place of 4 and 16, which the host gave itself, the highest of eight bytes is left off
+   where it is not 0. Every other place is whole. */
 uint64_t hartley_place(uint64_t answer);
 
 /* Of an accepted bound, bytes 1 to 7: the bound. */

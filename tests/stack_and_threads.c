@@ -28,12 +28,12 @@ enum { THREADS = 4, ROUNDS = 200, BLOCKS_TRIED = 50 };
 
 /* Those up to SAVE can refuse. */
 enum entry {
-    FORWARD, BOUND, BACKWARD, PARTS, POWER, SCALED, STRONGEST, NEAREST, CHECK, FETCH, SAVE,
-    NUMBER, PLACE, DISTANCE, CASE, FOUND, LINE, RATE, P, BLOCKS, USED, VERSION
+    FORWARD, BOUND, BACKWARD, PARTS, POWER, SCALED, SMOOTH, STRONGEST, NEAREST, CHECK, FETCH,
+    SAVE, NUMBER, PLACE, DISTANCE, CASE, FOUND, LINE, RATE, P, BLOCKS, USED, VERSION
 };
 static const char *const names[] = {
-    "forward", "bound", "backward", "parts", "power", "scaled", "strongest", "nearest", "check", "fetch", "save",
-    "number", "place", "distance", "case", "found", "line", "rate", "p", "blocks", "used", "version"
+    "forward", "bound", "backward", "parts", "power", "scaled", "smooth", "strongest", "nearest", "check", "fetch",
+    "save", "number", "place", "distance", "case", "found", "line", "rate", "p", "blocks", "used", "version"
 };
 
 static struct trace { uint8_t *bytes; size_t count; uint64_t sum; } *traces;
@@ -63,15 +63,15 @@ static ucontext_t here, on_stack;
 static size_t most[COUNT(names)];           /* what each entry took at most */
 static int met[SAVE + 1][2];                /* whether each that can refuse has accepted, and has refused */
 
-/* What the next call is lent: the cells or the trace, outputs of one size, the line, the band's ends or the block asked
-   for, the level, and the rate and P of a trace that is saved. */
+/* What the next call is lent: the cells or the trace, the weights, outputs of one size, the line, the band's ends or
+   the block asked for, the level, and the rate and P of a trace that is saved. */
 static struct {
     enum entry entry;
-    size_t cells_bytes, output_bytes, index, high, rate, p;
+    size_t cells_bytes, weights_bytes, output_bytes, index, high, rate, p;
     int64_t level;
     struct trace trace;
 } lent;
-static int64_t cells[LONGEST / 2 + 1], first[LARGEST], second[LARGEST];
+static int64_t cells[LONGEST / 2 + 1], weights[2 * LARGEST], first[LARGEST], second[LARGEST];
 static uint8_t saved[LONGEST];
 static double real, imaginary;
 static uint64_t answer;
@@ -93,6 +93,8 @@ static uint64_t called(void)
         return hartley_power(given, given_bytes, one, bytes);
     case SCALED:
         return hartley_scaled(given, given_bytes, lent.index, &real, &imaginary);
+    case SMOOTH:
+        return hartley_smooth(given, given_bytes, (const uint8_t *)weights, lent.weights_bytes);
     case STRONGEST:
         return hartley_strongest(given, given_bytes, lent.index, lent.high);
     case NEAREST:
@@ -188,6 +190,36 @@ static void measure_blocks(void)
         measure_block(no_block[i], 1, LARGEST, (LARGEST / 2 + 1) * CELL);
 }
 
+/* A block of so many bytes smoothed, of cells 1, 2, 3 and so on, but the last, by weights 31, but the last. */
+static void measure_smooth(size_t bytes, int64_t last, size_t weights_bytes, int64_t last_weight)
+{
+    lent.cells_bytes = bytes;
+    lent.weights_bytes = weights_bytes;
+    for (size_t t = 0; t < bytes / CELL; t++)
+        cells[t] = t + 1 < bytes / CELL ? (int64_t)t + 1 : last;
+    for (size_t i = 0; i < weights_bytes / CELL; i++)
+        weights[i] = i + 1 < weights_bytes / CELL ? 31 : last_weight;
+    measure(SMOOTH);
+}
+
+/* Blocks of every P and of no P: accepted, too loud, with a byte more, with weights that do not fit, and with weights
+   that add to too much. */
+static void measure_smooths(void)
+{
+    static const size_t no_block[] = {0, CELL, 3 * CELL, 2 * LARGEST * CELL};
+    for (size_t n = 2; n <= LARGEST; n *= 2) {
+        measure_smooth(n * CELL, -32768, n * CELL, -31);
+        measure_smooth(n * CELL, 32768, n * CELL, -31);
+        measure_smooth(n * CELL + 1, 1, n * CELL, 1);
+        measure_smooth(n * CELL, 1, n * CELL + 1, 1);
+        measure_smooth(n * CELL, 1, n / 2 * CELL, 1);
+        measure_smooth(n * CELL, 1, n * CELL, 32768);
+        measure_smooth(n * CELL, 1, n * CELL, INT64_MIN);
+    }
+    for (size_t i = 0; i < COUNT(no_block); i++)
+        measure_smooth(no_block[i], 1, no_block[i], 1);
+}
+
 /* The searches of a list of so many bytes, of powers 1, 2, 3 and so on: with lines that it has and lines that it has
    not, in every order, and levels that all lines reach, or the last alone, or none. */
 static void measure_list(size_t bytes)
@@ -274,6 +306,7 @@ static void measure_all(void)
         fail("no memory", "stack");
     stack = room + GUARD;
     measure_blocks();
+    measure_smooths();
     measure_lists();
     for (size_t i = 0; i < trace_count; i++)
         measure_trace(&traces[i]);
@@ -318,8 +351,21 @@ static uint64_t with_save(uint64_t sum, uint64_t checked, const int64_t *block, 
     return with_bytes(sum, own, bytes);
 }
 
-/* A sum over all that check, fetch, save, bound, forward, power and the searches answer and leave, for some blocks of a
-   trace. */
+/* The sum, and with it what smoothing a copy of a block answers and leaves. The weights are cut from the samples, so
+   that their magnitudes never add to too much. */
+static uint64_t with_smooth(uint64_t sum, const int64_t *block, size_t n)
+{
+    int64_t own[LARGEST], own_weights[LARGEST];
+    for (size_t t = 0; t < n; t++) {
+        own[t] = block[t];
+        own_weights[t] = block[t] % 32;
+    }
+    sum = 31 * sum + hartley_smooth((uint8_t *)own, n * CELL, (const uint8_t *)own_weights, n * CELL);
+    return with_cells(with_cells(sum, own, n), own_weights, n);
+}
+
+/* A sum over all that check, fetch, save, smooth, bound, forward, power and the searches answer and leave, for some
+   blocks of a trace. */
 static uint64_t sum_of(const struct trace *trace)
 {
     int64_t block[LARGEST], powers[LARGEST / 2 + 1];
@@ -332,6 +378,7 @@ static uint64_t sum_of(const struct trace *trace)
         sum = 31 * sum + hartley_fetch(trace->bytes, trace->count, k, (uint8_t *)block, n * CELL);
         sum = with_cells(sum, block, n);
         sum = with_save(sum, checked, block, n);
+        sum = with_smooth(sum, block, n);
         sum = 31 * sum + hartley_bound((uint8_t *)block, n * CELL);
         sum = with_cells(sum, block, n);
         sum = 31 * sum + hartley_forward((uint8_t *)block, n * CELL);

@@ -1,2 +1,3 @@
 pub mod ForwardBytes
 pub mod BackwardBytes
+pub mod SmoothBytes

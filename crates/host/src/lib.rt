@@ -9,6 +9,9 @@ ghost use Rattle.block.specs.Tests.{testedLine, testedSamples, testedSpectrum};
 ghost use Rattle.block.specs.BlockAnswers.{blockAnswer, verdictNumbers};
 ghost use Rattle.distance.specs.BoundAnswers.{boundAnswer, boundNumbers};
 ghost use Rattle.hartley.specs.Promises.{FirstLineExact, NearDirectSum, NegativeBlock, NegativeSpectrum};
+ghost use Rattle.smooth_tests.specs.Tests.{testedSmoothing};
+ghost use Rattle.smoothing.specs.Promises.{AnyPair};
+ghost use Rattle.smooth_bytes.specs.BytesLeft.{smoothBytes};
 ghost use Rattle.fourier.specs.Parts.{testedParts, testedPower};
 ghost use Rattle.fourier.specs.Scaled.{Values};
 ghost use Rattle.block_bytes.specs.BytesLeft.{backwardBytes, forwardBytes};
@@ -55,6 +58,17 @@ pub extern "C" fn hartley_backward(cells: &mut [u8]) -> u64
     ensures negative { λ _. ⌜ NegativeBlock (cellsIn (now (cells .entry))) (cellsIn (now (cells .exit))) ⌝ }
 {
     block_bytes::backward(cells)
+}
+
+// The block that the bytes spell, smoothed by the weights that bytes spell, in its place.
+#[no_mangle]
+pub extern "C" fn hartley_smooth(cells: &mut [u8], weights: &[u8]) -> u64
+    ensures answer { λ r. ⌜ r ≡ packed (blockAnswer (testedSmoothing (cellsIn (now (cells .entry))) (cellsIn (now (weights .entry))))) ⌝ }
+    ensures numbers { λ r. ⌜ unpackedBlock r ≡ verdictNumbers (testedSmoothing (cellsIn (now (cells .entry))) (cellsIn (now (weights .entry)))) ⌝ }
+    ensures bytes { λ _. ⌜ now (cells .exit) ≡ smoothBytes (now (cells .entry)) (now (weights .entry)) ⌝ }
+    ensures any_pair { λ r. ⌜ (r ≡ 0 → AnyPair (cellsIn (now (cells .entry))) (cellsIn (now (weights .entry))) (cellsIn (now (cells .exit)))) ⌝ }
+{
+    smooth_bytes::smooth(cells, weights)
 }
 
 // The doubled real and imaginary parts of the spectrum that the bytes spell, for lines 0 to N/2, in two lists of lent bytes.
@@ -229,7 +243,7 @@ pub extern "C" fn hartley_used(answer: u64) -> u64
 pub extern "C" fn hartley_version() -> u64
     ensures { λ r. ⌜ r ≡ VERSION ⌝ }
 {
-    5
+    6
 }
 
 // Byte 1 of an answer.

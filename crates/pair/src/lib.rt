@@ -61,7 +61,7 @@ fn join_quad(
 }
 
 // Cell v plus q, and in cell n + v, half a turn on, cell v minus q.
-fn put_both(cells: &mut [i64], n: usize, v: usize, q: i64)
+pub fn put_both(cells: &mut [i64], n: usize, v: usize, q: i64)
     requires { ⌜ (length (now cells) ≡ 2 * n) × (v < n) × (natAbs (cell (now cells) v) ≤ LARGEST-PRODUCT) × (natAbs q ≤ LARGEST-SUM) ⌝ }
     ensures { λ _. ⌜ now (cells .exit) ≡ split (now (cells .entry)) n v q ⌝ }
 {

@@ -4,7 +4,7 @@ use mathlib.Core.Path.{_≡_}
 use Prim.Native.Nat.{_≤_, _<_}
 use native.Mathlib.Omega.{arith}
 use Rattle.refusal.specs.declared.Refusal.{Refusal}
-use Rattle.refusal.specs.declared.Refusal.the-variants.{Length, Misfit, Loud, Line, Long, Cut, Kind, Size, Head, Absent, Headless, SecondHead, Tail}
+use Rattle.refusal.specs.declared.Refusal.the-variants.{Length, Misfit, Loud, Line, Long, Cut, Kind, Size, Head, Absent, Headless, SecondHead, Tail, Weights}
 use Rattle.refusal.specs.RefusalTable.{number}
 
 pub number-fits : (refusal : Refusal) → (1 ≤ number refusal) × (number refusal < 256)
@@ -21,6 +21,7 @@ number-fits (Absent block) = (omega arith, omega arith)
 number-fits (Headless byte) = (omega arith, omega arith)
 number-fits (SecondHead byte) = (omega arith, omega arith)
 number-fits (Tail byte) = (omega arith, omega arith)
+number-fits (Weights weight) = (omega arith, omega arith)
 
 pub never-13 : (refusal : Refusal) → number refusal ≡ 13 → ⊥
 never-13 Length e = omega arith
@@ -36,3 +37,4 @@ never-13 (Absent block) e = omega arith
 never-13 (Headless byte) e = omega arith
 never-13 (SecondHead byte) e = omega arith
 never-13 (Tail byte) e = omega arith
+never-13 (Weights weight) e = omega arith

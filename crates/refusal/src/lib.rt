@@ -3,8 +3,8 @@ use kind::Line;
 ghost use mathlib.Core.Path.{_≡_};
 ghost use Rattle.refusal.specs.RefusalTable.{number, place};
 
-// Why an input is refused: the rows of document 01, Refused input, in its order and by its words, and those of document 02, Item 3, which stand in
-// place of its 13. A refusal holds its place, a cell, a line, a byte of the trace or the number of a block, unless the papers' place is 0.
+// Why an input is refused: the rows of document 01, Refused input, in its order and by its words, those of document 02, Item 3, which stand in place of
+// its 13, and that of Item 7. A refusal holds its place, a cell, a line, a byte of the trace, the number of a block or a weight, unless the papers' place is 0.
 pub enum Refusal {
     Length,
     Misfit,
@@ -19,6 +19,7 @@ pub enum Refusal {
     Headless(usize),
     SecondHead(usize),
     Tail(usize),
+    Weights(usize),
 }
 
 impl Refusal {
@@ -40,6 +41,7 @@ impl Refusal {
             Refusal::Headless(_) => 17,
             Refusal::SecondHead(_) => 18,
             Refusal::Tail(_) => 19,
+            Refusal::Weights(_) => 20,
         }
     }
 
@@ -61,6 +63,7 @@ impl Refusal {
             Refusal::Headless(byte) => byte,
             Refusal::SecondHead(byte) => byte,
             Refusal::Tail(byte) => byte,
+            Refusal::Weights(weight) => weight,
         }
     }
 }

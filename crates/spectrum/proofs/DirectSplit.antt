@@ -57,7 +57,7 @@ Cas-near k ε = (j : ℕ) → natAbs (cas fine (j + k) *ℤ pos (2 ^ 60) -ℤ (c
 -- ---- angles. With n h = 1,024 the angle of sample t at line v is v t h, and nothing is divided.
 
 -- (v mod n) u h and v u h are one angle
-same-angle : (n h v u : ℕ) → n * h ≡ 1024 → v * u * h ≡ v % n * u * h + v / n * u * 1024
+pub same-angle : (n h v u : ℕ) → n * h ≡ 1024 → v * u * h ≡ v % n * u * h + v / n * u * 1024
 same-angle n h v u e = go (v / n) (v % n) (div-add-mod' v n)
   where
     go : (d m : ℕ) → d * n + m ≡ v → v * u * h ≡ m * u * h + d * u * 1024
@@ -68,7 +68,7 @@ abbrev pub mirror : ℕ → ℕ → ℕ
 mirror n v = (n - v % n) % n
 
 -- v and its mirror come to a multiple of n
-with-mirror : (n v : ℕ) → zero < n → (m : ℕ) × (mirror n v + v ≡ m * n)
+pub with-mirror : (n v : ℕ) → zero < n → (m : ℕ) × (mirror n v + v ≡ m * n)
 with-mirror n v z = go (v % n) (div-add-mod' v n) (mod-lt v z)
   where
     go : (w : ℕ) → v / n * n + w ≡ v → w < n → (m : ℕ) × ((n - w) % n + v ≡ m * n)

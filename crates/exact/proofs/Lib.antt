@@ -1,0 +1,9 @@
+pub mod DirectSums
+pub mod ExactLevels
+pub mod Path
+pub mod CyclicSums
+pub mod Inversion
+pub mod Convolution
+pub mod Limits
+pub mod ExactSmoothing
+pub mod Worked

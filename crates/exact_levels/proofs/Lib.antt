@@ -1,0 +1,3 @@
+pub mod PartByPart
+pub mod Fours
+pub mod Powers

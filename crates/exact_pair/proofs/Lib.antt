@@ -1,0 +1,4 @@
+pub mod Products
+pub mod Lines
+pub mod Joining
+pub mod Steps

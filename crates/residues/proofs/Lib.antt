@@ -1,0 +1,4 @@
+pub mod Congruent
+pub mod Residues
+pub mod Folding
+pub mod Prime

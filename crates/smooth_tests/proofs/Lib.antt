@@ -1,0 +1,4 @@
+pub mod Heavy
+pub mod InNumbers
+pub mod SmoothingTaken
+pub mod SmoothingRefused

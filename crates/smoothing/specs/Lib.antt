@@ -1,0 +1,2 @@
+pub mod Promises
+pub mod Inner

@@ -1,0 +1,3 @@
+pub mod Turning
+pub mod Angles
+pub mod Chosen

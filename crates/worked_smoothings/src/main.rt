@@ -1,0 +1,122 @@
+// Document 02, Item 7: smoothings worked by hand, run. What is printed is held to the file stdout, which was worked by hand from the document.
+use block::Answer;
+use printing::print_cells;
+use printing::print_line_end;
+use printing::print_refusal;
+use printing::print_signed;
+use printing::print_text;
+use printing::print_unsigned;
+
+fn main() {
+    shifts();
+    sums();
+    limits();
+    long_blocks();
+    refusals();
+}
+
+// Weights of one cell turn the block round.
+fn shifts() {
+    smooth(&mut [1, 2, 3, 4], &[1, 0, 0, 0]);
+    smooth(&mut [1, 2, 3, 4], &[0, 1, 0, 0]);
+    smooth(&mut [1, 2, 3, 4], &[0, 0, 0, 1]);
+    smooth(&mut [1, 2, 3, 4], &[0, 0, -3, 0]);
+}
+
+// Weights of more cells.
+fn sums() {
+    smooth(&mut [3, -5], &[2, 1]);
+    smooth(&mut [1, 2, 3, 4], &[20000, -12767, 0, 0]);
+    smooth(&mut [1, 2, 3, 4, 5, 6, 7, 8], &[1, 1, 0, 0, 0, 0, 0, 0]);
+    smooth(&mut [10, 0, 0, 0, 0, 0, 0, 0], &[3, 2, 1, 0, 0, 0, 1, 2]);
+}
+
+// The largest results.
+fn limits() {
+    smooth(&mut [-32768, -32768], &[32767, 0]);
+    smooth(&mut [-32768, -32768], &[-16383, -16384]);
+}
+
+// Blocks that are smoothed by way of their spectra: one sample and one weight, and all alike.
+fn long_blocks() {
+    smooth_pulse(64, 10, 32767, 60, -32767);
+    smooth_pulse(128, 127, -32768, 127, 32767);
+    smooth_pulse(1024, 700, 5, 324, -7);
+    smooth_alike(64, -3, 511);
+    smooth_alike(1024, -32768, 31);
+}
+
+// 1, 2, 3 and 20 in turn, and 20 where the running sum passes its limit, whatever comes after.
+fn refusals() {
+    smooth(&mut [], &[]);
+    smooth(&mut [40000, 1, 2], &[]);
+    smooth(&mut [1, 2, 3, 40000], &[40000, 2, 3]);
+    smooth(&mut [1, 2, 3, 40000], &[40000, 2, 3, 4]);
+    smooth(&mut [1, 2, 3, 4], &[20000, -12767, 0, -1]);
+    smooth(&mut [1, 2, 3, 4], &[32767, 1, -1, 0]);
+    smooth(&mut [1, 2, 3, 4], &[-32768, 0, 0, 0]);
+    smooth(&mut [1, 2, 3, 4], &[1, 9223372036854775807, 0, 0]);
+    smooth(&mut [1, 2, 3, 4], &[-9223372036854775808, 0, 0, 0]);
+}
+
+// What is left of a block that is smoothed by weights.
+fn smooth(cells: &mut [i64], weights: &[i64]) {
+    print_cells(b"smooth", cells);
+    print_cells(b" by", weights);
+    print_answer(smoothing::smooth(cells, weights));
+    print_cells(b"", cells);
+    print_line_end();
+}
+
+// A block of n cells with one sample and one weight: each moment whose cell is not 0 afterwards, and the cell.
+fn smooth_pulse(n: usize, moment: usize, sample: i64, place: usize, weight: i64) {
+    let mut cells = [0; 1024];
+    let mut weights = [0; 1024];
+    if n <= 1024 && moment < n && place < n {
+        cells[moment] = sample;
+        weights[place] = weight;
+        print_text(b"smooth");
+        print_unsigned(n);
+        print_text(b" cells, a sample and a weight");
+        print_answer(smoothing::smooth(&mut cells[..n], &weights[..n]));
+        print_moments(&cells[..n]);
+    }
+}
+
+// A block of n cells that are alike, by weights that are: the first cell afterwards, and the last.
+fn smooth_alike(n: usize, sample: i64, weight: i64) {
+    let mut cells = [sample; 1024];
+    let weights = [weight; 1024];
+    if 1 <= n && n <= 1024 {
+        print_text(b"smooth");
+        print_unsigned(n);
+        print_text(b" cells, all alike");
+        print_answer(smoothing::smooth(&mut cells[..n], &weights[..n]));
+        print_signed(cells[0]);
+        print_signed(cells[n - 1]);
+        print_line_end();
+    }
+}
+
+// Each cell that is not 0, after its moment.
+fn print_moments(cells: &[i64]) {
+    let mut t = 0;
+    while t < cells.len() {
+        if cells[t] != 0 {
+            print_text(b" at");
+            print_unsigned(t);
+            print_signed(cells[t]);
+        }
+        t += 1;
+    }
+    print_line_end();
+}
+
+// The refusal, if there is one, after a colon.
+fn print_answer(answer: Answer) {
+    print_text(b":");
+    match answer {
+        Answer::Done => {}
+        Answer::Refused(refusal) => print_refusal(refusal),
+    }
+}
