@@ -32,7 +32,7 @@ pub fn copy(from: &[i64], to: &mut [i64])
 }
 
 // The sum at each moment t. The samples up to t meet the weights from t down to the first, and those after it the weights from the last down.
-fn fill_sums(samples: &[i64], weights: &[i64], sums: &mut [i64])
+pub fn fill_sums(samples: &[i64], weights: &[i64], sums: &mut [i64])
     requires { ⌜ (length (now samples) ≤ SHORT) × (length (now sums) ≡ length (now samples)) × Short (now samples) (now weights) ⌝ }
     ensures { λ _. ⌜ now (sums .exit) ≡ cyclicSums (now (samples .entry)) (now (weights .entry)) ⌝ }
 {

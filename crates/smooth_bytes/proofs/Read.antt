@@ -20,7 +20,7 @@ use Rattle.cell_bytes.proofs.CellsRead.{Reads, all-room, decoded-all, decoded-c
 use Rattle.refusal.specs.declared.Refusal.the-variants.{Length}
 use Rattle.block.specs.declared.BlockVerdict.{BlockVerdict}
 use Rattle.block.specs.declared.BlockVerdict.the-variants.{Taken, Refused}
-use Rattle.block.specs.BlockAnswers.{blockAnswer, verdictNumbers}
+use Rattle.block.specs.BlockAnswers.{blockAnswer, cellsLeft, verdictNumbers}
 use Rattle.block.proofs.Refused.{kind-least, kind-largest}
 use Rattle.packing.specs.Packing.{packed, unpackedBlock}
 use Rattle.packing.proofs.Packing.{block-unpacked}
@@ -29,7 +29,8 @@ use Rattle.lent_cells.proofs.Calls.{left-so, says-so}
 use Rattle.smooth_tests.specs.Tests.{testedSmoothing}
 use Rattle.smooth_tests.proofs.SmoothingTaken.{SmoothingTaken, misfit-alike, smoothing-taken}
 use Rattle.smooth_tests.proofs.SmoothingRefused.{smoothing-length, smoothing-place}
-use Rattle.smoothing.specs.Promises.{smoothLeft}
+use Rattle.exact.specs.Smoothing.{cyclicSums}
+use Rattle.smoothing.specs.Promises.{smoothLeft, sumsLeft}
 use Rattle.smooth_bytes.specs.BytesLeft.{smoothBytes}
 use Rattle.smooth_bytes.specs.Inner.{SmoothAnswered}
 
@@ -110,12 +111,15 @@ module _ (bytes weights : List ℕ) (n : ℕ) (e : n ≡ cellCount (CELL * LARGE
       go (same k room whole) = (is ∙ sym k, all-weights some (taken .as-long), whole some ∙ ap (λ (m : ℕ). CELL * m) (sym long))
       go (too-many z k) = absurd (omega (arith, some))
 
-  pub answered : {answer : ℕ} → answer ≡ packed (blockAnswer (testedSmoothing ys vs)) → (zs : List ℤ) → zs ≡ smoothLeft ys vs → length zs ≡ length ys → {after : List ℕ} → after ≡ writtenBack answer zs bytes
+  -- zs are the cells of which the bytes are written, where the call is done
+  pub answered : {answer : ℕ} → answer ≡ packed (blockAnswer (testedSmoothing ys vs)) → (lent zs : List ℤ) → zs ≡ sumsLeft ys vs lent → length zs ≡ length ys → {after : List ℕ} → after ≡ writtenBack answer zs bytes
       → SmoothAnswered bytes weights after answer
-  answered a zs z many l = record {
+  answered a lent zs z many l = record {
     says = says-so _ _ same-tests a;
-    leaves = left-so _ _ same-tests a (smoothLeft (cellsIn bytes) (cellsIn weights)) zs bytes l
-        (λ kind t. let r = read-taken kind t in (z ∙ ap₂ smoothLeft (r .0) (r .1), r .2 ∙ ap (λ (m : ℕ). CELL * m) (sym many)));
+    leaves = left-so _ _ same-tests a (smoothLeft (cellsIn bytes) (cellsIn weights)) zs bytes l (λ kind t. let r = read-taken kind t in let xs = cellsIn bytes in let ws = cellsIn weights in (
+      z ∙ ap (cellsLeft (λ P. cyclicSums ys vs) lent) t ∙ ap₂ cyclicSums (r .0) (r .1) ∙ ap (cellsLeft (λ P. cyclicSums xs ws) xs) (sym t ∙ same-tests),
+      r .2 ∙ ap (λ (m : ℕ). CELL * m) (sym many),
+    ));
   }
 
 -- ---- the papers' numbers in an answer

@@ -8,10 +8,6 @@ use Rattle.packing.specs.Packing.{packed}
 use Rattle.smooth_tests.specs.Tests.{testedSmoothing}
 use Rattle.smooth_bytes.specs.BytesLeft.{smoothBytes}
 
--- the cells of a small room
-abbrev pub SMALL : ℕ
-SMALL = 16
-
 -- the call answers as the tests of its cells say, and leaves these bytes
 pub record SmoothAnswered (before weights after : List ℕ) (answer : ℕ) : Type 0 where
   pub says : answer ≡ packed (blockAnswer (testedSmoothing (cellsIn before) (cellsIn weights)))

@@ -1,10 +1,11 @@
 // Exact smoothing of a block by weights, in its own cells (document 02, Item 7).
 use block::Answer;
 use block::BlockVerdict;
+use cyclic_sums::SHORT;
 use kind::BlockKind;
 ghost use mathlib.Core.Path.{_≡_};
 ghost use mathlib.Core.List.{map};
-ghost use Prim.Native.Nat.{ℕ, _≤_};
+ghost use Prim.Native.Nat.{ℕ, _+_, _/_, _≤_};
 ghost use lib.ListN.{length};
 ghost use Rattle.ints.specs.Cells.{cell};
 ghost use Rattle.block.specs.BlockAnswers.{answerNumbers, blockAnswer, verdictNumbers};
@@ -13,12 +14,18 @@ ghost use Rattle.residues.specs.Residue.{centred, residue};
 ghost use Rattle.turns.specs.Turn.{CHOSEN};
 ghost use Rattle.exact.specs.Smoothing.{combined, cyclicSums, divided, restored, smoothed};
 ghost use Rattle.exact_pair.specs.Pair.{FIRST, Stands};
+ghost use Rattle.cyclic_sums.specs.Short.{SHORT};
 ghost use Rattle.smooth_tests.specs.Tests.{testedSmoothing};
-ghost use Rattle.smoothing.specs.Promises.{AnyPair, smoothLeft};
+ghost use Rattle.smoothing.specs.Promises.{AnyPair, smoothLeft, sumsLeft};
 ghost use Rattle.smoothing.specs.Inner.{Accepted, LineRoom, Lines, Spectra, linesCombined};
 
-// The cosines of a quarter of the turn, both its ends among them.
-const QUARTER: usize = BlockKind::TURN / 4 + 1;
+// The cells of a middle room. A call clears its rooms, and a block of the middle size should not wait for those of the largest.
+const MIDDLE: usize = 128;
+
+// The cosines that a block of as many cells takes, over a quarter of the turn, both ends among them.
+const MIDDLE_QUARTER: usize = MIDDLE / 4 + 1;
+
+const QUARTER: usize = BlockKind::LARGEST / 4 + 1;
 
 // A half modulo 2^31 − 1: twice 2^30 is 2^31, which is 1.
 const HALF: i64 = 1073741824;
@@ -39,27 +46,74 @@ pub fn smooth(cells: &mut [i64], weights: &[i64]) -> Answer
     }
 }
 
-// The same of a block and weights that are taken: up to 32 cells the plain sums are formed sooner.
+// The same of up to 32 cells, whose plain sums are formed sooner than their spectra, in a list of their own.
+pub fn smooth_short(cells: &[i64], weights: &[i64], sums: &mut [i64]) -> Answer
+    requires { ⌜ (length (now cells) ≤ SHORT) × (length (now sums) ≡ length (now cells)) ⌝ }
+    ensures answer { λ r. ⌜ r ≡ blockAnswer (testedSmoothing (now (cells .entry)) (now (weights .entry))) ⌝ }
+    ensures sums { λ _. ⌜ now (sums .exit) ≡ sumsLeft (now (cells .entry)) (now (weights .entry)) (now (sums .entry)) ⌝ }
+{
+    match smooth_tests::tested(cells, weights) {
+        BlockVerdict::Refused(refusal) => Answer::Refused(refusal),
+        BlockVerdict::Taken(kind) => {
+            cyclic_sums::fill_sums(cells, weights, sums);
+            Answer::Done
+        }
+    }
+}
+
+// The same of a block and weights that are taken.
 fn smooth_taken(cells: &mut [i64], weights: &[i64], p: usize)
     requires { ⌜ Accepted p (now cells) (now weights) ⌝ }
     ensures { λ _. ⌜ now (cells .exit) ≡ cyclicSums (now (cells .entry)) (now (weights .entry)) ⌝ }
 {
-    if p <= 5 {
+    if cells.len() <= SHORT {
         cyclic_sums::sum_cells(cells, weights);
     } else {
         smooth_by_spectra(cells, weights, p);
     }
 }
 
-// The same by way of the spectra, of the block in its own cells and of the weights in a copy.
+// The same by way of the spectra, with room by the number of cells.
 fn smooth_by_spectra(cells: &mut [i64], weights: &[i64], p: usize)
     requires { ⌜ (3 ≤ p) × Accepted p (now cells) (now weights) ⌝ }
     ensures { λ _. ⌜ now (cells .exit) ≡ smoothed CHOSEN p (now (cells .entry)) (now (weights .entry)) ⌝ }
 {
-    let mut room = [0i64; BlockKind::LARGEST];
-    let spectrum = &mut room[..cells.len()];
-    let mut entries = [0i64; QUARTER];
-    let quarter = &mut entries[..cells.len() / 4 + 1];
+    let len = cells.len();
+    if len <= MIDDLE {
+        let mut spectrum = [0i64; MIDDLE];
+        let mut quarter = [0i64; MIDDLE_QUARTER];
+        smooth_in(
+            cells,
+            weights,
+            &mut spectrum[..len],
+            &mut quarter[..len / 4 + 1],
+            p,
+        );
+    } else {
+        let mut spectrum = [0i64; BlockKind::LARGEST];
+        let mut quarter = [0i64; QUARTER];
+        smooth_in(
+            cells,
+            weights,
+            &mut spectrum[..len],
+            &mut quarter[..len / 4 + 1],
+            p,
+        );
+    }
+}
+
+// The same in rooms for the spectrum of the weights and for the cosines. That of the block is made in its own cells.
+fn smooth_in(
+    cells: &mut [i64],
+    weights: &[i64],
+    spectrum: &mut [i64],
+    quarter: &mut [i64],
+    p: usize,
+)
+    requires { ⌜ (3 ≤ p) × Accepted p (now cells) (now weights) ⌝ }
+    requires { ⌜ (length (now spectrum) ≡ length (now cells)) × (length (now quarter) ≡ length (now cells) / 4 + 1) ⌝ }
+    ensures { λ _. ⌜ now (cells .exit) ≡ smoothed CHOSEN p (now (cells .entry)) (now (weights .entry)) ⌝ }
+{
     exact_quarter::fill_quarter(quarter, p - 2);
     cyclic_sums::copy(weights, spectrum);
     exact_levels::transform(spectrum, quarter, p);

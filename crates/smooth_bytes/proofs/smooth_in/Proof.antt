@@ -64,7 +64,7 @@ same-length-3 c = search needs
 
 returns : tie.Need-returns
 returns c = let b = c .before .before in let p = b .before .before .before in let f = p .before .before in let e = f .smooth .ensures in let a = start f .args in
-    answered (bytes f) (weights f) _ (start f .pre .0) (samples f) (factors f) (samples-read f) _ (start f .pre .1) (factors-read f) (p .packed .ensures ∙ ap packed (e .0)) _ (e .1 .1 .0) (f .smooth .kept .0) (b .write-back .ensures)
+    answered (bytes f) (weights f) _ (start f .pre .0) (samples f) (factors f) (samples-read f) _ (start f .pre .1) (factors-read f) (p .packed .ensures ∙ ap packed (e .0)) _ _ (e .1 .1 .0) (f .smooth .kept .0) (b .write-back .ensures)
 
 pub smooth-in-spec : {M : Type 1} → statement M
 smooth-in-spec =

@@ -1,102 +1,77 @@
--- `smooth_by_spectra` is right because each step of the path has what it asks for in what the step before it leaves.
+-- `smooth_by_spectra` is right because `smooth_in` is, in the fronts of rooms that are large enough.
 use borrow.Author.Needs.{needs}
-use mathlib.Core.Path.{sym, _∙_}
+use mathlib.Core.Path.{sym}
 use native.Mathlib.Omega.{arith}
 use lib.Seq.{length-take-le}
-use Rattle.smoothing.proofs.BySpectra.{cells-few, quarter-long, cells-ready, weights-ready, spectra-ready, combined-ready, restore-ready, path-taken}
+use Rattle.smoothing.proofs.BySpectra.{cells-few}
 use Rattle.smoothing.proofs.smooth_by_spectra.Statement.{statement}
 use Rattle.smoothing.proofs.smooth_by_spectra.Tie as tie
 
--- ---- the calls, each from the next
+array-borrow-prefix-spectrum : tie.Need-array-borrow-prefix-spectrum
+array-borrow-prefix-spectrum c = search needs
 
-abbrev start : tie.After-fill-quarter → tie.Start
-start c = c .before .before .before .before
+slice-aggregate-smooth-in : tie.Need-slice-aggregate-smooth-in
+slice-aggregate-smooth-in c = sym (length-take-le _ _ (omega arith))
 
-abbrev filled : tie.After-copy → tie.After-fill-quarter
-filled c = c .before .before .before
+add-quarter : tie.Need-add-quarter
+add-quarter c = search needs
 
-abbrev copied : tie.After-transform → tie.After-copy
-copied c = c .before .before .before .before
+array-borrow-prefix-quarter : tie.Need-array-borrow-prefix-quarter
+array-borrow-prefix-quarter c = search needs
 
-abbrev first : tie.After-transform2 → tie.After-transform
-first c = c .before .before .before .before
+slice-aggregate-smooth-in-2 : tie.Need-slice-aggregate-smooth-in-2
+slice-aggregate-smooth-in-2 c = sym (length-take-le _ _ (omega arith))
 
-abbrev second : tie.After-combine → tie.After-transform2
-second c = c .before .before .before .before
+smooth-in-requires : tie.Need-smooth-in-requires
+smooth-in-requires c κs = ((c .before .before .before .before .pre .0, c .before .before .before .before .pre .1), (length-take-le _ _ (omega arith), length-take-le _ _ (omega arith)))
 
-abbrev made : tie.After-transform3 → tie.After-combine
-made c = c .before .before .before .before .before
+array-borrow-prefix-spectrum-2 : tie.Need-array-borrow-prefix-spectrum-2
+array-borrow-prefix-spectrum-2 c = cells-few (c .before .before .pre .1)
 
-abbrev third : tie.After-restore → tie.After-transform3
-third c = c .before .before .before .before
+slice-aggregate-smooth-in-3 : tie.Need-slice-aggregate-smooth-in-3
+slice-aggregate-smooth-in-3 c = sym (length-take-le _ _ (cells-few (c .before .before .before .pre .1)))
 
-array-borrow-prefix-room : tie.Need-array-borrow-prefix-room
-array-borrow-prefix-room c = cells-few (c .pre .1)
+add-quarter-2 : tie.Need-add-quarter-2
+add-quarter-2 c = search needs
 
-slice-aggregate-spectrum : tie.Need-slice-aggregate-spectrum
-slice-aggregate-spectrum c = sym (length-take-le _ _ (cells-few (c .before .pre .1)))
+array-borrow-prefix-quarter-2 : tie.Need-array-borrow-prefix-quarter-2
+array-borrow-prefix-quarter-2 c = omega (arith, cells-few (c .before .before .before .pre .1))
 
-add-entries : tie.Need-add-entries
-add-entries c = search needs
+slice-aggregate-smooth-in-4 : tie.Need-slice-aggregate-smooth-in-4
+slice-aggregate-smooth-in-4 c = sym (length-take-le _ _ (omega (arith, cells-few (c .before .before .before .before .pre .1))))
 
-array-borrow-prefix-entries : tie.Need-array-borrow-prefix-entries
-array-borrow-prefix-entries c = omega (arith, cells-few (c .before .pre .1))
-
-slice-aggregate-quarter : tie.Need-slice-aggregate-quarter
-slice-aggregate-quarter c = sym (length-take-le _ _ (omega (arith, cells-few (c .before .before .pre .1))))
-
-sub-fill-quarter : tie.Need-sub-fill-quarter
-sub-fill-quarter c = search needs
-
-fill-quarter-requires : tie.Need-fill-quarter-requires
-fill-quarter-requires c κs = let s = c .before .before .before in
-    (omega arith, omega arith, length-take-le _ _ (omega (arith, cells-few (s .pre .1))) ∙ quarter-long (s .pre .1) (s .pre .0))
-
-copy-requires : tie.Need-copy-requires
-copy-requires c κs = let s = start (c .before .before) in length-take-le _ _ (cells-few (s .pre .1)) ∙ s .pre .1 .long ∙ sym (s .pre .1 .as-long)
-
-transform-requires : tie.Need-transform-requires
-transform-requires c κs = let d = c .before .before .before in let s = start (filled d) in
-    weights-ready (s .pre .1) (s .pre .0) (filled d .fill-quarter .ensures) (d .copy .ensures)
-
-transform-requires-2 : tie.Need-transform-requires-2
-transform-requires-2 c κs = let f = filled (copied (c .before .before .before)) in cells-ready (start f .pre .1) (start f .pre .0) (f .fill-quarter .ensures)
-
-combine-requires : tie.Need-combine-requires
-combine-requires c κs = let d = c .before .before .before in let s = start (filled (copied (first d))) in
-    spectra-ready (s .pre .1) (s .pre .0) (d .transform2 .ensures) (first d .transform .ensures)
-
-transform-requires-3 : tie.Need-transform-requires-3
-transform-requires-3 c κs = let d = c .before .before .before .before in let f = filled (copied (first (second d))) in
-    combined-ready (start f .pre .1) (start f .pre .0) (f .fill-quarter .ensures) (second d .transform2 .ensures) (d .combine .ensures)
-
-restore-requires : tie.Need-restore-requires
-restore-requires c κs = let d = c .before .before .before in let s = start (filled (copied (first (second (made d))))) in
-    (s .pre .1 .least, s .pre .1 .most, restore-ready (s .pre .1) (d .transform3 .ensures))
+smooth-in-requires-2 : tie.Need-smooth-in-requires-2
+smooth-in-requires-2 c κs = let p = c .before .before .before .before .pre in ((p .0, p .1), (length-take-le _ _ (cells-few (p .1)), length-take-le _ _ (omega (arith, cells-few (p .1)))))
 
 same-length : tie.Need-same-length
 same-length c = search needs
 
 returns : tie.Need-returns
-returns c = let r = c .before in let t = third r in let m = made t in let d = second m in let e = copied (first d) in
-    path-taken (start (filled e) .pre .1) (e .copy .ensures) (first d .transform .ensures) (d .transform2 .ensures) (m .combine .ensures) (t .transform3 .ensures) (r .restore .ensures)
+returns c = search needs
+
+same-length-2 : tie.Need-same-length-2
+same-length-2 c = search needs
+
+returns-2 : tie.Need-returns-2
+returns-2 c = search needs
 
 pub smooth-by-spectra-spec : {M : Type 1} → statement M
 smooth-by-spectra-spec =
     tie.close
     (tie.spec
-    array-borrow-prefix-room
-    slice-aggregate-spectrum
-    add-entries
-    array-borrow-prefix-entries
-    slice-aggregate-quarter
-    sub-fill-quarter
-    fill-quarter-requires
-    copy-requires
-    transform-requires
-    transform-requires-2
-    combine-requires
-    transform-requires-3
-    restore-requires
+    array-borrow-prefix-spectrum
+    slice-aggregate-smooth-in
+    add-quarter
+    array-borrow-prefix-quarter
+    slice-aggregate-smooth-in-2
+    smooth-in-requires
+    array-borrow-prefix-spectrum-2
+    slice-aggregate-smooth-in-3
+    add-quarter-2
+    array-borrow-prefix-quarter-2
+    slice-aggregate-smooth-in-4
+    smooth-in-requires-2
     same-length
-    returns)
+    returns
+    same-length-2
+    returns-2)
