@@ -20,7 +20,8 @@ fn test_loudness(cells: &[i64], least: i64, greatest: i64) -> Result<(), Refusal
     Ok(())
 }
 
-/// Refusal 3, "forward: a cell outside -32,768 to 32,767"; the same for saving (document 02, Item 4).
+/// Refusal 3, "forward: a cell outside -32,768 to 32,767"; the same for saving and smoothing (document 02, Items 4 and
+/// 7).
 pub fn test_samples(cells: &[i64]) -> Result<(), Refusal> {
     test_loudness(cells, -32_768, 32_767)
 }

@@ -7,6 +7,7 @@ use crate::refusal::{refuse_if, Refusal, LENGTH, MISFIT};
 use crate::saving::{save, test_head};
 use crate::scaled::{scaled, Scaled};
 use crate::search::{nearest, strongest};
+use crate::smoothing::smooth;
 use crate::trace::{block, contents, test_block, Contents};
 
 /// "a count of bytes that is no multiple of eight is a refusal 1"
@@ -47,7 +48,8 @@ pub fn backward_bytes(lent: &mut [u8]) -> Result<(), Refusal> {
     Ok(())
 }
 
-/// A count of bytes that is no multiple of eight is a refusal 1, "or 2 in an output"; else the count of cells.
+/// A count of bytes that is no multiple of eight is a refusal 1, "or 2 in an output", and 2 in weights as well; else
+/// the count of cells.
 fn cells_lent(lent: &[u8]) -> Result<usize, Refusal> {
     refuse_if(lent.len() % 8 != 0, MISFIT, 0)?;
     Ok(lent.len() / 8)
@@ -85,6 +87,17 @@ pub fn strongest_bytes(powers: &[u8], low: u64, high: u64) -> Result<u64, Refusa
 /// The nearest line that reaches a level, of powers on bytes.
 pub fn nearest_bytes(powers: &[u8], chosen: u64, level: i64) -> Result<Option<u64>, Refusal> {
     nearest(&cells_of(powers)?, chosen, level)
+}
+
+/// Smoothing on bytes (document 02, Item 7): "The smoothed cells replace the samples in their block; the weights are
+/// kept." Bytes of weights that are no whole number of cells are not N cells.
+pub fn smooth_bytes(lent: &mut [u8], weights: &[u8]) -> Result<(), Refusal> {
+    let cells = cells_of(lent)?;
+    test_length(cells.len())?;
+    cells_lent(weights)?;
+    let smoothed = smooth(&cells, &cells_of(weights)?)?;
+    replace(lent, &smoothed);
+    Ok(())
 }
 
 /// A fetch into bytes: the trace's own tests, "then tests 16, then 2". It answers what the check does, and "also

@@ -12,12 +12,13 @@ mod refusal;
 mod saving;
 mod scaled;
 mod search;
+mod smoothing;
 mod trace;
 
 pub use blocks::{backward, direct, forward, halves, E};
 pub use cells::{
     backward_bytes, bound_bytes, fetch_bytes, forward_bytes, nearest_bytes, parts_bytes, power_bytes, save_bytes,
-    scaled_bytes, strongest_bytes,
+    scaled_bytes, smooth_bytes, strongest_bytes,
 };
 pub use cosines::{fine_cosine, table_cosine};
 pub use fourier::{parts, power};
@@ -27,4 +28,5 @@ pub use refusal::Refusal;
 pub use saving::save;
 pub use scaled::{scaled, Fraction, Scaled};
 pub use search::{nearest, strongest};
+pub use smoothing::smooth;
 pub use trace::{contents, fetch, Contents};

@@ -1,4 +1,4 @@
-//! Section "Refused input". In place of its 13 stand the three numbers of document 02, Item 3.
+//! Section "Refused input". In place of its 13 stand the three numbers of document 02, Item 3; 20 is of its Item 7.
 
 /// "A refusal is the number and place".
 #[derive(Debug, Clone, Copy, PartialEq, Eq)]
@@ -20,6 +20,7 @@ pub const ABSENT: u64 = 16;
 pub const HEADLESS: u64 = 17;
 pub const SECOND_HEAD: u64 = 18;
 pub const TAIL: u64 = 19;
+pub const WEIGHTS: u64 = 20;
 
 /// "the first fault found decides": where the fault holds, the call ends with this refusal.
 pub fn refuse_if(fault: bool, number: u64, place: usize) -> Result<(), Refusal> {

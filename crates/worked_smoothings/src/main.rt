@@ -39,11 +39,54 @@ fn limits() {
 
 // Blocks that are smoothed by way of their spectra: one sample and one weight, and all alike.
 fn long_blocks() {
-    smooth_pulse(64, 10, 32767, 60, -32767);
-    smooth_pulse(128, 127, -32768, 127, 32767);
-    smooth_pulse(1024, 700, 5, 324, -7);
-    smooth_alike(64, -3, 511);
-    smooth_alike(1024, -32768, 31);
+    pulse_of_64();
+    pulse_of_128();
+    pulse_of_1024();
+    smooth_alike(b"smooth 64 cells, all alike", &mut [-3; 64], &[511; 64]);
+    smooth_alike(
+        b"smooth 1024 cells, all alike",
+        &mut [-32768; 1024],
+        &[31; 1024],
+    );
+}
+
+// 64 cells, with 32,767 at moment 10 and a weight of -32,767 at moment 60.
+fn pulse_of_64() {
+    let mut cells = [0; 64];
+    let mut weights = [0; 64];
+    cells[10] = 32767;
+    weights[60] = -32767;
+    smooth_pulse(
+        b"smooth 64 cells, a sample and a weight",
+        &mut cells,
+        &weights,
+    );
+}
+
+// 128 cells, with -32,768 and a weight of 32,767 at the last moment.
+fn pulse_of_128() {
+    let mut cells = [0; 128];
+    let mut weights = [0; 128];
+    cells[127] = -32768;
+    weights[127] = 32767;
+    smooth_pulse(
+        b"smooth 128 cells, a sample and a weight",
+        &mut cells,
+        &weights,
+    );
+}
+
+// 1,024 cells, with 5 at moment 700 and a weight of -7 at moment 324.
+fn pulse_of_1024() {
+    let mut cells = [0; 1024];
+    let mut weights = [0; 1024];
+    cells[700] = 5;
+    weights[324] = -7;
+    smooth_pulse(
+        b"smooth 1024 cells, a sample and a weight",
+        &mut cells,
+        &weights,
+    );
 }
 
 // 1, 2, 3 and 20 in turn, and 20 where the running sum passes its limit, whatever comes after.
@@ -68,34 +111,22 @@ fn smooth(cells: &mut [i64], weights: &[i64]) {
     print_line_end();
 }
 
-// A block of n cells with one sample and one weight: each moment whose cell is not 0 afterwards, and the cell.
-fn smooth_pulse(n: usize, moment: usize, sample: i64, place: usize, weight: i64) {
-    let mut cells = [0; 1024];
-    let mut weights = [0; 1024];
-    if n <= 1024 && moment < n && place < n {
-        cells[moment] = sample;
-        weights[place] = weight;
-        print_text(b"smooth");
-        print_unsigned(n);
-        print_text(b" cells, a sample and a weight");
-        print_answer(smoothing::smooth(&mut cells[..n], &weights[..n]));
-        print_moments(&cells[..n]);
-    }
+// The same, with each cell that is not 0 afterwards.
+fn smooth_pulse(text: &[u8], cells: &mut [i64], weights: &[i64]) {
+    print_text(text);
+    print_answer(smoothing::smooth(cells, weights));
+    print_moments(cells);
 }
 
-// A block of n cells that are alike, by weights that are: the first cell afterwards, and the last.
-fn smooth_alike(n: usize, sample: i64, weight: i64) {
-    let mut cells = [sample; 1024];
-    let weights = [weight; 1024];
-    if 1 <= n && n <= 1024 {
-        print_text(b"smooth");
-        print_unsigned(n);
-        print_text(b" cells, all alike");
-        print_answer(smoothing::smooth(&mut cells[..n], &weights[..n]));
+// The same, with the first cell afterwards and the last.
+fn smooth_alike(text: &[u8], cells: &mut [i64], weights: &[i64]) {
+    print_text(text);
+    print_answer(smoothing::smooth(cells, weights));
+    if 0 < cells.len() {
         print_signed(cells[0]);
-        print_signed(cells[n - 1]);
-        print_line_end();
+        print_signed(cells[cells.len() - 1]);
     }
+    print_line_end();
 }
 
 // Each cell that is not 0, after its moment.

@@ -6,6 +6,7 @@ extern "C" {
     fn hartley_forward(cells: *mut u8, cells_bytes: usize) -> u64;
     fn hartley_bound(cells: *const u8, cells_bytes: usize) -> u64;
     fn hartley_backward(cells: *mut u8, cells_bytes: usize) -> u64;
+    fn hartley_smooth(cells: *mut u8, cells_bytes: usize, weights: *const u8, weights_bytes: usize) -> u64;
     fn hartley_parts(
         spectrum: *const u8,
         spectrum_bytes: usize,
@@ -112,6 +113,11 @@ pub fn bound(cells: &mut Lent) -> u64 {
 
 pub fn backward(cells: &mut Lent) -> u64 {
     unsafe { hartley_backward(cells.pointer(), cells.count) }
+}
+
+/// The weights, too, are lent as if they could be written.
+pub fn smooth(cells: &mut Lent, weights: &mut Lent) -> u64 {
+    unsafe { hartley_smooth(cells.pointer(), cells.count, weights.pointer(), weights.count) }
 }
 
 /// The spectrum, too, is lent as if it could be written; so are those of the next two.

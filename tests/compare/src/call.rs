@@ -9,6 +9,7 @@ pub enum Call {
     Forward,
     Bound,
     Backward,
+    Smooth,
     Parts,
     Power,
     Scaled,
@@ -20,7 +21,7 @@ pub enum Call {
     List,
 }
 
-/// The calls on a block. Bound is run beside every forward.
+/// The calls on a block. Bound is run beside every forward, and smooth, which takes weights as well, by itself.
 pub const ON_A_BLOCK: [Call; 5] = [Call::Forward, Call::Backward, Call::Parts, Call::Power, Call::Scaled];
 
 impl Call {
@@ -36,7 +37,7 @@ impl Call {
     /// The least and the largest cell that the call takes.
     pub fn limits(self) -> (i64, i64) {
         match self {
-            Call::Forward | Call::Bound | Call::Save => SAMPLES,
+            Call::Forward | Call::Bound | Call::Smooth | Call::Save => SAMPLES,
             _ => LINES,
         }
     }

@@ -12,19 +12,25 @@ mod inputs;
 mod lines;
 mod quiet;
 mod random;
+mod refused_smooths;
 mod report;
 mod save_cases;
 mod saves;
 mod saving;
 mod search;
+mod smooth_cases;
+mod smoothing;
+mod smooths;
 mod tally;
 mod traces;
+mod weights;
 mod words;
 mod worked;
 
 use call::{Call, LINES, ON_A_BLOCK, SAMPLES};
 use compare::Comparison;
 use inputs::{any_line, any_line_above, any_output, bytes_of, make_loud, several_faults, shaped, LENGTHS, SHAPES};
+use random::Random;
 use std::process::exit;
 use traces::{DAMAGES, LONGEST};
 
@@ -79,6 +85,13 @@ fn main() {
     for _ in 0..rounds {
         quiet::blocks(&mut c);
     }
+    // smoothing has a random sequence of its own, and leaves that of the others as it is
+    let others = std::mem::replace(&mut c.random, Random::new(seed << 32));
+    let worked = worked + apart(&mut c, worked::smooths);
+    for _ in 0..rounds {
+        smooths::smooths(&mut c);
+    }
+    c.random = others;
     c.tally.print();
     c.tally.must_be_complete();
     println!("\ncomparison: ok, {} inputs, {worked} of them worked samples", worked + c.tally.inputs);

@@ -14,14 +14,16 @@ pub struct Run<'a> {
     pub call: Call,
     pub sort: &'static str,
     pub input: &'a [u8],
-    pub asked: String, // the line, the band or the block that was asked for, or rate and P, if any
-    pub output: usize, // bytes, of all outputs
+    pub weights: &'a [u8], // of a smoothing
+    pub asked: String,     // the line, the band or the block that was asked for, or rate and P, if any
+    pub output: usize,     // bytes, of all outputs
     pub answers: [String; 2],
 }
 
 impl<'a> Run<'a> {
     pub fn new<A: ToString>(call: Call, sort: &'static str, input: &'a [u8], answers: [A; 2]) -> Run<'a> {
-        Run { call, sort, input, asked: String::new(), output: 0, answers: answers.map(|answer| answer.to_string()) }
+        let answers = answers.map(|answer| answer.to_string());
+        Run { call, sort, input, weights: &[], asked: String::new(), output: 0, answers }
     }
 }
 
@@ -128,6 +130,10 @@ impl Comparison {
             println!("  asked for: {}", run.asked);
         }
         println!("  first bytes given: {:02X?}", &run.input[..run.input.len().min(64)]);
+        if run.call == Call::Smooth {
+            let first = &run.weights[..run.weights.len().min(64)];
+            println!("  weights: {} bytes, the first {first:02X?}", run.weights.len());
+        }
         println!("  answer: {first}, second program {second}");
         println!("  {difference}");
         exit(1);

@@ -11,10 +11,11 @@ use std::process::exit;
 
 /// Every call, with the numbers of its refusals: those that are given at every P, 0 being the accepted inputs, and
 /// those of blocks and traces that have no P.
-const ANSWERS: [(Call, &[usize], &[usize]); 12] = [
+const ANSWERS: [(Call, &[usize], &[usize]); 13] = [
     (Call::Forward, &[0, 3], &[1]),
     (Call::Bound, &[0, 3], &[1]),
     (Call::Backward, &[0, 3], &[1]),
+    (Call::Smooth, &[0, 2, 3, 20], &[1]),
     (Call::Parts, &[0, 2, 3], &[1]),
     (Call::Power, &[0, 2, 3], &[1]),
     (Call::Scaled, &[0, 3, 4], &[1]),
@@ -33,10 +34,16 @@ pub fn in_the_papers(call: Call, number: u64) -> bool {
 }
 
 /// Faults that an input can have together, in the order of their tests: the first decides.
-const TOGETHER: [(Call, [u64; 2]); 23] = [
+const TOGETHER: [(Call, [u64; 2]); 29] = [
     (Call::Forward, [1, 3]),
     (Call::Bound, [1, 3]),
     (Call::Backward, [1, 3]),
+    (Call::Smooth, [1, 2]),
+    (Call::Smooth, [1, 3]),
+    (Call::Smooth, [1, 20]),
+    (Call::Smooth, [2, 3]),
+    (Call::Smooth, [2, 20]),
+    (Call::Smooth, [3, 20]),
     (Call::Parts, [1, 3]),
     (Call::Parts, [2, 3]),
     (Call::Power, [1, 3]),
@@ -59,7 +66,7 @@ const TOGETHER: [(Call, [u64; 2]); 23] = [
     (Call::Save, [10, 2]),
 ];
 
-const NUMBERS: [usize; 13] = [1, 2, 3, 4, 10, 11, 12, 14, 15, 16, 17, 18, 19];
+const NUMBERS: [usize; 14] = [1, 2, 3, 4, 10, 11, 12, 14, 15, 16, 17, 18, 19, 20];
 
 /// The sizes of a trace by its number of blocks.
 const SIZES: [&str; 4] = ["no block", "one block", "several", "the most"];
@@ -73,7 +80,7 @@ fn size(p: u64, blocks: usize) -> usize {
 }
 
 /// Inputs of a call and a sort: how many were accepted, refused by 1, by 2 and so on.
-type Rows = BTreeMap<(Call, &'static str), [u64; 20]>;
+type Rows = BTreeMap<(Call, &'static str), [u64; 21]>;
 
 /// Blocks that a call took with their negatives, and the halves that its divisions met, above and below zero.
 #[derive(Default)]
@@ -130,10 +137,11 @@ pub struct Tally {
     /// For each P the saved traces of which each block was read back, and the traces saved again, by their sizes.
     read_back: [[u64; 4]; 11],
     saved_again: [[u64; 4]; 11],
-    /// The cases of the searches, of saving, of the words of a fetch and of a block's M, with the least P of each: how
-    /// often it was seen at each P.
+    /// The cases of the searches, of saving, of the words of a fetch, of a block's M and of smoothing, with the least P
+    /// of each: how often it was seen at each P.
     cases: BTreeMap<(Call, &'static str, usize), [u64; 11]>,
-    /// The forms of the traces that check refused, and of the heads that save refused: how often each was seen.
+    /// The forms of the traces that check refused, of the heads that save refused, and of the lengths that smooth
+    /// refused: how often each was seen.
     forms: BTreeMap<(Call, &'static str), u64>,
     /// For each P the blocks measured, all of them, and those of each quiet M.
     measured: [Measured; 11],
@@ -280,7 +288,7 @@ impl Tally {
 
     fn print_cases(&self) {
         let heads: String = (1..=10).map(|p| format!("{p:>7}")).collect();
-        println!("\n{:56}{heads}", "cases of searches, of saving, of words and of M, at P");
+        println!("\n{:56}{heads}", "cases of searches, saving, words, M and smoothing, at P");
         for ((call, case, _), counts) in &self.cases {
             let counts: String = counts[1..].iter().map(|count| format!("{count:>7}")).collect();
             println!("{:56}{counts}", format!("{call:?}, {case}"));

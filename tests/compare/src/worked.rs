@@ -134,6 +134,64 @@ fn refused_bounds(c: &mut Comparison) {
     }
 }
 
+/// Smoothing (document 02, Item 7), by hand: "at moment t, the plain sum over moments u of sample(u) times weight((t -
+/// u) mod N)".
+pub fn smooths(c: &mut Comparison) {
+    let largest = 1_073_709_056; // 32,768 × 32,767
+    for (cells, weights, result) in [
+        (&[1, 2, 3, 4][..], &[1, 0, 0, 0][..], &[1, 2, 3, 4][..]),
+        (&[1, 2, 3, 4], &[0, 1, 0, 0], &[4, 1, 2, 3]),
+        (&[1, 2, 3, 4], &[0, 0, 1, 0], &[3, 4, 1, 2]),
+        (&[1, 2, 3, 4], &[0, 0, 0, 1], &[2, 3, 4, 1]),
+        (&[1, 2, 3, 4], &[1, 2, 0, -1], &[7, 1, 3, 9]), // 1 × 1 + 2 × -1 + 3 × 0 + 4 × 2, and so on
+        (&[1, 2, 3, 4], &[20_000, -12_767, 0, 0], &[-31_068, 27_233, 34_466, 41_699]),
+        (&[3, -5], &[2, 7], &[-29, 11]),
+        (&[1, 1], &[1, -1], &[0, 0]),
+        (&[0, 0, 4, 0, 0, 0, 0, 8], &[2, 1, 0, 0, 0, 0, 0, 1], &[8, 4, 8, 4, 0, 0, 8, 16]),
+        (&[-32_768, 0], &[0, -32_767], &[0, largest]),
+        (&[-32_768; 4], &[-1, -32_763, -1, -2], &[largest; 4]),
+        (&[-32_768; 1024], &[31; 1024], &[-32_768 * 31 * 1024; 1024]),
+    ] {
+        let (answer, left) = c.smooth(SORT, &bytes_of(cells), &bytes_of(weights));
+        assert_eq!((answer, cells_of(&left)), (0, result.to_vec()), "{cells:?} smoothed by {weights:?}");
+        assert_eq!(oracle::smooth(cells, weights), Ok(result.to_vec()), "{cells:?} smoothed by the second program");
+    }
+    refused_smooths(c);
+}
+
+/// "Checks: 1; 2 if the weights aren't N cells; 3 for samples; 20 weights (their magnitudes add to more than 32,767;
+/// place the first cell where the running sum passes it)."
+fn refused_smooths(c: &mut Comparison) {
+    for (cells, weights, answer) in [
+        (&[][..], &[][..], 1),
+        (&[0], &[0], 1),
+        (&[0; 3], &[0; 3], 1),
+        (&[0; 2048], &[0; 2048], 1),
+        (&[1 << 40; 3], &[i64::MIN; 4], 1), // 1 before 2, 3 and 20
+        (&[1, 2, 3, 4], &[1, 2, 3], 2),
+        (&[1, 2, 3, 4], &[], 2),
+        (&[1, 2, 3, 40_000], &[1, 2, 3], 2),                     // 2 before 3
+        (&[1, 2, 3, 4], &[40_000, 2, 3, 4, 5], 2),               // 2 before 20
+        (&[1, 2, 3, 40_000], &[40_000, 2, 3, 4], refused(3, 3)), // 3 before 20
+        (&[1, -32_769, 3, 32_768], &[1, 0, 0, 0], refused(3, 1)),
+        (&[1, 2, 3, 4], &[20_000, -12_767, 0, -1], refused(20, 3)),
+        (&[1, 2, 3, 4], &[20_000, -12_768, 12_768, 0], refused(20, 1)),
+        (&[1, 2, 3, 4], &[32_767, 0, 1, 1], refused(20, 2)),
+        (&[1, 2, 3, 4], &[-32_768, 0, 0, 0], 20),
+        (&[1, 2, 3, 4], &[i64::MIN, 0, 0, 0], 20),
+        (&[1, 2, 3, 4], &[0, i64::MIN, i64::MIN, 0], refused(20, 1)), // whose magnitudes add to 2^64
+        (&[1, 2, 3, 4], &[1, 0, i64::MAX, i64::MIN], refused(20, 2)),
+    ] {
+        let (given, left) = c.smooth(SORT, &bytes_of(cells), &bytes_of(weights));
+        assert_eq!((given, cells_of(&left)), (answer, cells.to_vec()), "{cells:?} smoothed by {weights:?}");
+    }
+    let (cells, weights) = (bytes_of(&[1 << 40; 3]), bytes_of(&[i64::MIN; 3]));
+    for count in [9, 15, 17, 23] {
+        assert_eq!(c.smooth(SORT, &cells[..count], &weights[..16]).0, 1, "{count} bytes smoothed");
+        assert_eq!(c.smooth(SORT, &cells[..16], &weights[..count]).0, 2, "smoothed by {count} bytes");
+    }
+}
+
 /// The second program's table and distances E, and how a double is held to a fraction.
 fn second_program() {
     for (j, t) in [(0, 32768), (64, 30274), (128, 23170), (192, 12540), (256, 0)] {
