@@ -1,8 +1,8 @@
 -- Cells that are worked part by part, from the front on: where each part of w cells stands for its lines of f, in the end all of them do.
 use mathlib.Core.Path.{_≡_, refl, sym, _∙_, ap, subst}
 use mathlib.Core.List.{List, _++_}
-use Prim.Native.Nat.{ℕ, _+_, _-_, _/_, _%_, _≤_, _<_}
-use native.Mathlib.Nat.{mul-le-mul-right, lt-of-mul-lt-mul-right, div-add-mod', add-mod-right, zero-mod, not-suc-le-zero}
+use Prim.Native.Nat.{ℕ, _+_, _-_, _%_, _≤_, _<_}
+use native.Mathlib.Nat.{add-mod-right, zero-mod, not-suc-le-zero}
 use native.Mathlib.Decide.{decLt}
 use native.Mathlib.Omega.{arith}
 use lib.IntN.{ℤ, pos, natAbs}
@@ -13,10 +13,6 @@ use Rattle.ints.specs.Cells.{cell}
 use Rattle.ints.proofs.Slices.{part-at, length-part, after-part, everywhere}
 use Rattle.residues.specs.Residue.{residue}
 use Rattle.exact_pair.specs.Pair.{Stands}
-
--- of parts that begin at multiples of w, one that begins inside ends inside
-pub part-inside : (w base N : ℕ) → base % w ≡ 0 → N % w ≡ 0 → base < N → base + w ≤ N
-part-inside w base N e f h = omega (arith, div-add-mod' base w, div-add-mod' N w, mul-le-mul-right w (lt-of-mul-lt-mul-right w {m = base / w} {n = N / w} (omega (arith, div-add-mod' base w, div-add-mod' N w))))
 
 -- what is true of the cells before place k, and of those of a part that is written there, is true of all up to its end
 up-to-part : (Q : ℕ → ℤ → Type 0) (k : ℕ) (ys zs rest : List ℤ) → k ≤ length ys → ((i : ℕ) → i < k → Q i (cell ys i)) → ((i : ℕ) → i < length zs → Q (k + i) (cell zs i)) →

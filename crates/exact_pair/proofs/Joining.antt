@@ -1,13 +1,13 @@
 -- A pair whose lines are made four at a time, from the outside in: lines below v and above n − v of both halves fulfil F, line 0 and those between still hold
 -- what they held. In crate pair F is an equation; here it is what a cell that stands for a line fulfils.
-use mathlib.Core.Path.{_≡_, refl, sym, _∙_, ap, subst}
+use mathlib.Core.Path.{_≡_, refl, sym, _∙_, subst}
 use mathlib.Core.Bool.{Bool, true, false, not}
 use mathlib.Core.List.{List}
 use Prim.Native.Nat.{ℕ, zero, suc, _+_, _*_, _-_, _≤_, _<_}
 use native.Mathlib.Omega.{arith}
 use borrow.Author.Count.{below-more}
 use lib.Dec.{T, ltb, ltb→lt, nltb→le}
-use lib.IntN.{ℤ, pos, _+ℤ_, _-ℤ_}
+use lib.IntN.{ℤ, _+ℤ_, _-ℤ_}
 use lib.ListN.{length}
 use Rattle.ints.specs.Cells.{cell}
 use Rattle.pair.specs.Pair.{split}

@@ -2,8 +2,8 @@
 -- plus and minus one sum of two products; that of line n − v has the same two cells, with cosine and sine exchanged and the cosine's sign changed.
 use mathlib.Core.Path.{_≡_, refl, _∙_, ap}
 use mathlib.Core.List.{[], _∷_}
-use Prim.Native.Nat.{ℕ, _+_, _*_, _-_, _%_, _≤_, _<_}
-use native.Mathlib.Nat.{add-mod-left, mod-eq-of-lt, mul-le-mul-right, zero-mul}
+use Prim.Native.Nat.{ℕ, _+_, _*_, _-_, _%_, _<_}
+use native.Mathlib.Nat.{add-mod-left, mod-eq-of-lt, zero-mul}
 use native.Mathlib.Omega.{arith}
 use lib.IntN.{ℤ, pos, negℤ, _+ℤ_, _-ℤ_, _*ℤ_}
 use Rattle.ints.proofs.Ring.{ring, quotes}
@@ -11,7 +11,7 @@ use Rattle.spectrum.specs.Levels.{line}
 use Rattle.spectrum.proofs.Pairs.{first-half, whole-steps}
 use Rattle.residues.proofs.Congruent.{_≈_, _⊙_, lin₂, ≈-is, ≈-plus, ≈-left}
 use Rattle.turns.proofs.Turning.{Turning}
-use Rattle.turns.proofs.Angles.{at, cosine-after-half, sine-after-half, cosine-even, sine-odd}
+use Rattle.turns.proofs.Angles.{cosine-after-half, sine-after-half, cosine-even, sine-odd}
 
 -- a pair whose halves have n = 2 k cells, with g steps of the turn between neighbouring lines
 module _ {C S : ℕ → ℤ} (turn : Turning C S) (cosine-quarter : C 256 ≈ pos 0) (sine-quarter : S 256 ≈ pos 1) (k n g : ℕ) (some : 0 < k) (half : n ≡ 2 * k) (quarter : k * g ≡ 256) (x : ℕ → ℤ) where

@@ -1,14 +1,10 @@
 -- Sizes before and after a fold: a cell of n × 2^34, n up to 512, folds to 2^31 + 2^12 at most, and the two products of such cells with a cosine and a sine
 -- to less than 2^34.
-use Prim.Native.Nat.{ℕ, _+_, _*_, _^_, _≤_, _<_}
-use mathlib.Core.Path.{_≡_}
+use Prim.Native.Nat.{ℕ, _+_, _*_, _^_, _≤_}
 use native.Mathlib.Nat.{mul-le-mul}
 use native.Mathlib.Omega.{arith}
-use lib.IntN.{ℤ, natAbs, _+ℤ_, _*ℤ_}
-use mir.Syntax.{w64}
-use mir.Val.{SFits}
+use lib.IntN.{ℤ, natAbs, _*ℤ_}
 use Rattle.ints.proofs.Abs.{abs-plus, abs-times}
-use Rattle.ints.proofs.Fit.{fits}
 use Rattle.residues.specs.Folded.{folded}
 use Rattle.residues.proofs.Folding.{folded-small}
 use Rattle.exact_pair.specs.Pair.{FIRST, Factors, products}

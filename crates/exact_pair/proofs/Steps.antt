@@ -5,12 +5,11 @@ use mathlib.Core.List.{List, [], _∷_}
 use Prim.Native.Nat.{ℕ, _+_, _*_, _-_, _/_, _^_, _≤_, _<_}
 use native.Mathlib.Nat.{mul-le-mul-right}
 use native.Mathlib.Omega.{arith}
-use lib.IntN.{ℤ, pos, negℤ, natAbs, _+ℤ_, _-ℤ_, _*ℤ_}
+use lib.IntN.{ℤ, pos, negℤ, natAbs, _+ℤ_, _-ℤ_}
 use lib.ListN.{length}
 use mir.Syntax.{w64}
 use mir.Val.{toZ, ofZ}
 use Rattle.ints.specs.Cells.{cell}
-use Rattle.ints.specs.Tabulate.{tabulate}
 use Rattle.ints.proofs.Abs.{abs-minus, abs-neg, abs-plus}
 use Rattle.ints.proofs.Fit.{reads-back}
 use Rattle.ints.proofs.Ring.{ring, quotes}
@@ -19,7 +18,7 @@ use Rattle.ints.proofs.Tables.{getD-tabulate, length-tabulate}
 use Rattle.spectrum.specs.Limits.{LARGEST-PRODUCT}
 use Rattle.pair.specs.Pair.{split}
 use Rattle.residues.specs.Folded.{folded}
-use Rattle.residues.proofs.Congruent.{_≈_, _⊙_, lin₁, ≈-is, ≈-left, ≈-minus, ≈-plus, ≈-sym, ≈-times}
+use Rattle.residues.proofs.Congruent.{_≈_, _⊙_, lin₁, ≈-is, ≈-minus, ≈-plus, ≈-sym, ≈-times}
 use Rattle.residues.proofs.Folding.{folded-≈}
 use Rattle.residues.proofs.Residues.{centred-≈, centred-small, same-residue}
 use Rattle.turns.specs.Turn.{CHOSEN, Pair, cosineAt, sineAt, steps}

@@ -1,14 +1,14 @@
 -- The chosen pair's cosines and sines at the steps of the turn, as centred numbers: how small they are, those of two angles added, and the sine as a cosine.
 -- Each law is a congruence from crate turns, and of all numbers with one residue only one is centred.
 -- Example: `cosine-next i j` says that the rule for two angles added, of the cosines and sines of steps i and j, gives the cosine of step i + j.
-use mathlib.Core.Path.{_≡_, sym, _∙_, ap}
-use Prim.Native.Nat.{ℕ, _+_, _^_, _≤_, _<_}
+use mathlib.Core.Path.{_≡_, _∙_, ap}
+use Prim.Native.Nat.{ℕ, _+_, _^_, _≤_}
 use native.Mathlib.Nat.{le-of-lt}
 use lib.IntN.{ℤ, pos, natAbs, _+ℤ_, _-ℤ_, _*ℤ_}
 use Rattle.ints.proofs.Order.{equal, equal-is}
-use Rattle.residues.specs.Residue.{MODULUS, centred, residue}
-use Rattle.residues.proofs.Congruent.{_≈_, _⊙_, ≈-is, ≈-refl, ≈-sym, ≈-plus, ≈-minus, ≈-times}
-use Rattle.residues.proofs.Residues.{centred-≈, centred-small, residue-unique}
+use Rattle.residues.specs.Residue.{centred, residue}
+use Rattle.residues.proofs.Congruent.{_≈_, _⊙_, ≈-is, ≈-sym, ≈-plus, ≈-minus, ≈-times}
+use Rattle.residues.proofs.Residues.{same-number, centred-≈, centred-small, residue-unique}
 use Rattle.turns.specs.Turn.{CHOSEN, Pair, cosineAt, sineAt, steps}
 use Rattle.turns.proofs.Turning.{Turning, turning, steps-below}
 use Rattle.turns.proofs.Chosen.{chosen-full, chosen-quarter}
@@ -62,11 +62,8 @@ module _ (i j : ℕ) where
 
 -- ---- the sine of a step is the cosine of what is left to the quarter
 
-same : (m n : ℕ) → m < MODULUS → n < MODULUS → pos m ≈ pos n → m ≡ n
-same m n h k e = sym (residue-unique m (pos n) h e) ∙ residue-unique n (pos n) k ≈-refl
-
 pub sine-is-cosine : (i j : ℕ) → i + j ≡ 256 → sineStep i ≡ cosineStep j
-sine-is-cosine i j e = ap centred (same (steps CHOSEN i .sine) (steps CHOSEN j .cosine) (steps-below CHOSEN i .1) (steps-below CHOSEN j .0) (sine-by-cosine turn quarter-cosine quarter-sine i j e))
+sine-is-cosine i j e = ap centred (same-number (steps CHOSEN i .sine) (steps CHOSEN j .cosine) (steps-below CHOSEN i .1) (steps-below CHOSEN j .0) (sine-by-cosine turn quarter-cosine quarter-sine i j e))
   where
     quarter-cosine : cosineAt CHOSEN 256 ≈ pos 0
     quarter-cosine = ≈-is (ap (λ (x : Pair). pos (x .cosine)) chosen-quarter)

@@ -16,7 +16,6 @@ pub record OnTurn (a b c d : ℤ) : Type 0 where
 -- a list of 2^t + 1 entries, and the angle between neighbours
 pub record Fills (quarter : List ℤ) (c d : ℤ) : Type 0 where
   pub t : ℕ
-  pub least : 1 ≤ t
   pub most : t ≤ 8
   pub long : length quarter ≡ 2 ^ t + 1
   pub cosine : c ≡ cosineStep (2 ^ (8 - t))

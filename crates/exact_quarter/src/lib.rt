@@ -20,7 +20,7 @@ pub struct Angle {
 
 // Fills a list of 2^t + 1 cells with the quarter's cosines.
 pub fn fill_quarter(quarter: &mut [i64], t: usize)
-    requires { ⌜ (1 ≤ t) × (t ≤ 8) × (length (now quarter) ≡ 2 ^ t + 1) ⌝ }
+    requires { ⌜ (t ≤ 8) × (length (now quarter) ≡ 2 ^ t + 1) ⌝ }
     ensures { λ _. ⌜ now (quarter .exit) ≡ quarterOf t ⌝ }
 {
     let step = step_between(t);

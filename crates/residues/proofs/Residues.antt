@@ -1,9 +1,9 @@
 -- A residue is congruent to its number, and congruent numbers have one residue; the centred number is the one that is small enough.
-use mathlib.Core.Path.{_≡_, refl, sym, _∙_, ap, ap₂}
+use mathlib.Core.Path.{_≡_, refl, sym, _∙_, ap}
 use mathlib.Core.Bool.{Bool, true, false, cond}
 use mathlib.Core.List.{[], _∷_}
-use Prim.Native.Nat.{ℕ, zero, suc, _+_, _*_, _-_, _/_, _%_, _^_, _≤_, _<_}
-use native.Mathlib.Nat.{mod-lt, div-add-mod', mod-eq-of-lt, mul-le-mul-right}
+use Prim.Native.Nat.{ℕ, zero, suc, _+_, _*_, _-_, _/_, _%_, _^_, _<_}
+use native.Mathlib.Nat.{mod-lt, div-add-mod'}
 use native.Mathlib.Omega.{arith}
 use lib.Dec.{T, ltb, ltb→lt, lt→ltb, nltb→le}
 use lib.IntN.{ℤ, pos, negsuc, negℤ, natAbs, _+ℤ_, _-ℤ_, _*ℤ_}
@@ -11,7 +11,7 @@ use Rattle.ints.proofs.Ring.{ring, quotes, sub-zero}
 use Rattle.ints.proofs.Abs.{abs-fact, abs-times, abs-zero}
 use Rattle.ints.proofs.Order.{pos-inj}
 use Rattle.residues.specs.Residue.{MODULUS, residue, centred}
-use Rattle.residues.proofs.Congruent.{M, Congruent, _≈_, _⊙_, ≈-refl, ≈-sym, difference, lin₁, lin₂}
+use Rattle.residues.proofs.Congruent.{M, _≈_, _⊙_, ≈-refl, ≈-sym, difference, lin₁, lin₂}
 
 -- ---- a residue and its number
 
@@ -64,6 +64,9 @@ residue-unique r z h e = pos-inj (same-≈ (residue-≈ z ⊙ ≈-sym e) (close 
 
 pub same-residue : {a b : ℤ} → a ≈ b → residue a ≡ residue b
 same-residue {a} {b} h = residue-unique (residue b) a (residue-lt b) (residue-≈ b ⊙ ≈-sym h)
+
+pub same-number : (m n : ℕ) → m < MODULUS → n < MODULUS → pos m ≈ pos n → m ≡ n
+same-number m n h k e = sym (residue-unique m (pos n) h e) ∙ residue-unique n (pos n) k ≈-refl
 
 pub of-residues : {a b : ℤ} → residue a ≡ residue b → a ≈ b
 of-residues {a} {b} e = ≈-sym (residue-≈ a) ⊙ rw e (residue-≈ b)

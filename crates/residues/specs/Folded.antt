@@ -1,5 +1,5 @@
 -- What a fold leaves. It stands in no public promise.
-use Prim.Native.Nat.{ℕ, _^_}
+use Prim.Native.Nat.{_^_}
 use lib.IntN.{ℤ, pos, _-ℤ_, _*ℤ_}
 use lib.Signed.{shrZ}
 use Rattle.residues.specs.Residue.{MODULUS}

@@ -1,6 +1,6 @@
 -- What the tests of smoothing tell where they refuse: a length that no block has is refusal 1 whatever the weights are, and no place is above 1,024.
 -- Example: `smoothing-place xs ws refusal e : place refusal ≤ LARGEST`, with e : testedSmoothing xs ws ≡ Refused refusal.
-use mathlib.Core.Path.{_≡_, refl, sym, _∙_, subst}
+use mathlib.Core.Path.{_≡_, refl, sym, subst}
 use mathlib.Core.Bool.{Bool, true, false}
 use mathlib.Core.List.{List, []}
 use Prim.Native.Nat.{ℕ, _≤_}
@@ -10,7 +10,6 @@ use lib.Dec.{eqb, ltb}
 use lib.IntN.{ℤ}
 use lib.ListN.{length}
 use Rattle.kind.specs.BlockKinds.{LARGEST, kindOf}
-use Rattle.kind.specs.declared.BlockKind.{BlockKind}
 use Rattle.kind.specs.declared.KindFound.{KindFound}
 use Rattle.kind.specs.declared.KindFound.the-variants.{Found, None}
 use Rattle.kind.specs.Loudness.{LEAST-SAMPLE, LARGEST-SAMPLE}

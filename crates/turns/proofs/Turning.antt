@@ -1,6 +1,6 @@
 -- The turn by a pair: steps add up as angles do. Half of a full turn is (−1, 0): its square is (1, 0), so it is (1, 0) or (−1, 0), since the modulus
 -- is prime, and half of a full turn does not lead back.
-use mathlib.Core.Path.{_≡_, refl, sym, _∙_, ap}
+use mathlib.Core.Path.{_≡_, refl, ap}
 use mathlib.Core.List.{[], _∷_}
 use mathlib.Core.Logic.{_⊎_, ⊎-elim}
 use Prim.Native.Nat.{ℕ, zero, suc, _+_, _<_}
@@ -10,7 +10,7 @@ use lib.IntN.{ℤ, pos, negℤ, _+ℤ_, _-ℤ_, _*ℤ_}
 use Rattle.ints.proofs.Ring.{ring, quotes}
 use Rattle.residues.specs.Residue.{MODULUS, residue}
 use Rattle.residues.proofs.Congruent.{_≈_, _⊙_, lin₂, ≈-refl, ≈-is, ≈-sym, ≈-plus, ≈-minus, ≈-times, ≈-left, ≈-right}
-use Rattle.residues.proofs.Residues.{residue-≈, residue-lt, residue-unique, of-residues, double-zero}
+use Rattle.residues.proofs.Residues.{same-number, residue-≈, residue-lt, of-residues, double-zero}
 use Rattle.residues.proofs.Prime.{root-of-zero, root-of-one}
 use Rattle.turns.specs.Turn.{Pair, turned, steps, FullTurn, cosineAt, sineAt}
 
@@ -25,9 +25,6 @@ pub record Turning (C S : ℕ → ℤ) : Type 0 where
   pub sine-half : S 512 ≈ pos 0
 
 -- congruent residues are the same number
-same-number : (m n : ℕ) → m < MODULUS → n < MODULUS → pos m ≈ pos n → m ≡ n
-same-number m n h k e = sym (residue-unique m (pos n) h e) ∙ residue-unique n (pos n) k ≈-refl
-
 module _ (q : Pair) where
   abbrev C : ℕ → ℤ
   C j = cosineAt q j

@@ -13,7 +13,8 @@ use Rattle.spectrum.proofs.Stages.{levels-within}
 use Rattle.turns.specs.Turn.{CHOSEN, cosineAt, sineAt}
 use Rattle.exact_pair.specs.Pair.{FIRST, Stands}
 use Rattle.exact_levels.specs.Ready.{FourReady, exactLevels}
-use Rattle.exact_levels.proofs.PartByPart.{Done, none-done, part-inside, part-long, part-cell, part-small, done-next, all-done}
+use Rattle.levels.proofs.PartByPart.{part-inside}
+use Rattle.exact_levels.proofs.PartByPart.{Done, none-done, part-long, part-cell, part-small, done-next, all-done}
 use Rattle.exact_levels.proofs.join_fours.Statement.{statement}
 use Rattle.exact_levels.proofs.join_fours.Tie as tie
 

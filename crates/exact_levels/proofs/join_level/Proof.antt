@@ -17,7 +17,8 @@ use Rattle.spectrum.proofs.Stages.{line-cong}
 use Rattle.turns.specs.Turn.{CHOSEN, cosineAt, sineAt}
 use Rattle.exact_pair.specs.Pair.{FIRST, NoneAbove, PairReady, Stands, cosineStep, exactLine}
 use Rattle.exact_levels.specs.Ready.{LevelReady, exactJoined}
-use Rattle.exact_levels.proofs.PartByPart.{Done, none-done, part-inside, part-long, part-cell, part-small, done-next, all-done}
+use Rattle.levels.proofs.PartByPart.{part-inside}
+use Rattle.exact_levels.proofs.PartByPart.{Done, none-done, part-long, part-cell, part-small, done-next, all-done}
 use Rattle.exact_levels.proofs.Powers.{power-product}
 use Rattle.exact_levels.proofs.join_level.Statement.{statement}
 use Rattle.exact_levels.proofs.join_level.Tie as tie

@@ -2,7 +2,7 @@
 use borrow.Author.Needs.{needs, sfits-of}
 use mathlib.Core.Path.{_≡_, refl, _∙_, ap, ap₂}
 use mathlib.Core.List.{List, [], _∷_}
-use Prim.Native.Nat.{ℕ, _+_, _-_, _*_, _^_, _≤_, _<_}
+use Prim.Native.Nat.{ℕ, _+_, _-_, _*_, _^_, _≤_}
 use native.Mathlib.Omega.{arith}
 use lib.IntN.{ℤ, pos, negℤ, natAbs, _-ℤ_}
 use lib.ListN.{length}
@@ -14,7 +14,7 @@ use Rattle.ints.specs.Cells.{cell}
 use Rattle.ints.proofs.Abs.{abs-neg}
 use Rattle.ints.proofs.Fit.{fits, reads-back}
 use Rattle.ints.proofs.Ring.{ring, quotes}
-use Rattle.spectrum.specs.Limits.{LARGEST-PRODUCT, LARGEST-SUM}
+use Rattle.spectrum.specs.Limits.{LARGEST-PRODUCT}
 use Rattle.pair.specs.Pair.{split}
 use Rattle.pair.proofs.Splitting.{split-long, split-other}
 use Rattle.residues.specs.Folded.{folded}

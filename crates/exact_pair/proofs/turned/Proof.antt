@@ -1,14 +1,14 @@
 -- `turned` is right because folded cells, cosine and sine leave room for both products and for their sum.
 use borrow.Author.Needs.{sfits-of}
-use mathlib.Core.Path.{_≡_, _∙_, ap}
+use mathlib.Core.Path.{_∙_, ap}
 use native.Mathlib.Omega.{arith}
-use lib.IntN.{ℤ, natAbs, _+ℤ_, _*ℤ_}
+use lib.IntN.{ℤ, _+ℤ_, _*ℤ_}
 use mir.Facts.{toZ-ofZ}
 use mir.Syntax.{w64}
-use mir.Val.{SFits, toZ, ofZ}
+use mir.Val.{SFits}
 use Rattle.ints.proofs.Fit.{fits}
 use Rattle.residues.specs.Folded.{folded}
-use Rattle.exact_pair.specs.Pair.{Factors, products}
+use Rattle.exact_pair.specs.Pair.{Factors}
 use Rattle.exact_pair.proofs.Products.{first-size, second-size, products-size}
 use Rattle.exact_pair.proofs.turned.Statement.{statement}
 use Rattle.exact_pair.proofs.turned.Tie as tie

@@ -11,9 +11,8 @@ step-between-requires c κs = search needs
 fill-by-requires : tie.Need-fill-by-requires
 fill-by-requires c κs = let told = c .before .before .before in let s = told .before in let n = told .step-between in let given = c .struct-told2 .given in record {
   t = s .args .t;
-  least = s .pre .0;
-  most = s .pre .1;
-  long = s .pre .2;
+  most = s .pre .0;
+  long = s .pre .1;
   cosine = toZ-ofZ (sfits-of (given .0 .1)) ∙ n .ensures .0;
   sine = toZ-ofZ (sfits-of (given .1 .0 .1)) ∙ n .ensures .1;
 }
@@ -22,7 +21,7 @@ same-length : tie.Need-same-length
 same-length c = search needs
 
 returns : tie.Need-returns
-returns c = let s = c .before .before .before .before .before .before in c .before .fill-by .ensures (s .args .t) (s .pre .1) (s .pre .2)
+returns c = let s = c .before .before .before .before .before .before in c .before .fill-by .ensures (s .args .t) (s .pre .0) (s .pre .1)
 
 pub fill-quarter-spec : {M : Type 1} → statement M
 fill-quarter-spec = tie.close (tie.spec step-between-requires fill-by-requires same-length returns)

@@ -33,7 +33,7 @@ sub-fill-quarter : tie.Need-sub-fill-quarter
 sub-fill-quarter c = search needs
 
 fill-quarter-requires : tie.Need-fill-quarter-requires
-fill-quarter-requires c κs = let p = c .before .pre in (omega arith, omega (arith, p .0 .1 .most), p .1 .1 ∙ quarter-long (p .0 .1) (p .0 .0))
+fill-quarter-requires c κs = let p = c .before .pre in (omega (arith, p .0 .1 .most), p .1 .1 ∙ quarter-long (p .0 .1) (p .0 .0))
 
 copy-requires : tie.Need-copy-requires
 copy-requires c κs = let s = start (c .before .before) in s .pre .1 .0 ∙ s .pre .0 .1 .long ∙ sym (s .pre .0 .1 .as-long)
