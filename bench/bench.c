@@ -3,7 +3,7 @@
  * DHT where it is installed. Prints tables in Markdown. Usage:
  *   bench FOLDER LIST LISTER EMPTY: times all; a folder for traces, the listing program, the one in C and a program that
  *     does nothing.
- *   bench calls forward|backward archive|C P TIMES, bench calls smooth archive|plain|scattered P TIMES: calls one
+ *   bench calls forward|backward archive|C P TIMES, bench calls smooth archive|plain|scattered|narrowed P TIMES: calls one
  *     contender so many times and prints nothing, for a count of its instructions.
  *   bench trace P FILE: writes the longest trace with blocks of that P.
  */
@@ -74,7 +74,7 @@ static int by_size(const void *a, const void *b)
 /* Times the contenders in turn, round by round, each round beginning with another. The first two are one and the same. */
 static void measure(struct contender *list, int count)
 {
-    long calls[4];
+    long calls[5];
     double round = 0;
     for (int i = 0; i < count; i++) {
         double spent = time_of(list[i].call, calls[i] = 1);
@@ -813,6 +813,13 @@ static void scattered_c_smooth(void)
 }
 
 /* A fresh block of 2^p random samples, and as many random weights: each may have its share of 32,767, of either sign. */
+static void narrowed_c_smooth(void)
+{
+    memcpy(warm_cells, fresh_cells, CELL * n);
+    if (rule_smooth_narrowed(warm_cells, n, weight_cells, n) != 0)
+        fail("the narrowed smoothing refuses");
+}
+
 static void set_smoothing(size_t p)
 {
     set_block(p, 1);
@@ -826,26 +833,27 @@ static void time_smooths(void)
     double before = 0;
     printf("\nSmooth, ns per call (best / median); C is the better of plain and scattered; growth of the archive's best per doubling"
            " of N:\n");
-    print_head(" P | N | archive | plain | scattered | archive/C | C/archive | A/A | spread | growth |");
+    print_head(" P | N | archive | plain | scattered | narrowed | archive/C | C/archive | archive/narrowed | A/A | spread | growth |");
     for (size_t p = 1; p <= 10; p++) {
-        struct contender list[4] = {
+        struct contender list[5] = {
             {.call = archive_smooth},
             {.call = archive_smooth},
             {.call = plain_c_smooth},
             {.call = scattered_c_smooth},
+            {.call = narrowed_c_smooth},
         };
         set_smoothing(p);
         archive_smooth();
-        for (int i = 2; i < 4; i++) {
+        for (int i = 2; i < 5; i++) {
             list[i].call();
             expect_same(warm_bytes, warm_cells, n);
         }
-        measure(list, 4);
+        measure(list, 5);
         const double ratio = fmax(list[2].ratio, list[3].ratio);
         printf("| %zu | %zu |", p, n);
-        print_times(list, 4, 1);
-        printf(" %.2f | %.2f |", ratio, 1 / ratio);
-        print_end(list, 4, before);
+        print_times(list, 5, 1);
+        printf(" %.2f | %.2f | %.2f |", ratio, 1 / ratio, list[4].ratio);
+        print_end(list, 5, before);
         before = list[0].best;
     }
 }
@@ -863,6 +871,7 @@ static void call_only(const char *name, const char *side, size_t p, long times)
         {"smooth", "archive", archive_smooth},
         {"smooth", "plain", plain_c_smooth},
         {"smooth", "scattered", scattered_c_smooth},
+        {"smooth", "narrowed", narrowed_c_smooth},
     };
     if (strcmp(name, "smooth") == 0)
         set_smoothing(p);

@@ -32,6 +32,7 @@ uint64_t rule_bound_plain(const int64_t *cells, size_t n);
    sums, of which the compiler makes vectors. */
 uint64_t rule_smooth_plain(int64_t *cells, size_t n, const int64_t *weights, size_t count);
 uint64_t rule_smooth_scattered(int64_t *cells, size_t n, const int64_t *weights, size_t count);
+uint64_t rule_smooth_narrowed(int64_t *cells, size_t n, const int64_t *weights, size_t count);
 
 /* The search of a list of so many powers. Strongest takes four lines at a time, nearest looks outwards from the chosen
    line. The scans find the same: they go through the band or the list line by line and keep the best. */

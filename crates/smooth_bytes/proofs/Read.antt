@@ -5,7 +5,7 @@ use mathlib.Core.Bool.{Bool, true, false, cond}
 use mathlib.Core.List.{List}
 use Prim.Native.Nat.{ℕ, zero, suc, _*_, _/_, _%_, _≤_, _<_}
 use native.Mathlib.Omega.{arith}
-use borrow.Author.Tests.{eq-eqb, eqb-true, eqb-false}
+use borrow.Author.Tests.{eq-eqb, le-leb, eqb-true, eqb-false}
 use lib.Dec.{eqb}
 use lib.IntN.{ℤ}
 use lib.ListN.{length}
@@ -17,9 +17,7 @@ use Rattle.little_endian.specs.Reading.{signeds}
 use Rattle.little_endian.proofs.Signed.{length-signeds}
 use Rattle.cell_bytes.specs.CellBytes.{CELL, cellCount, cellsIn, decoded, fitCount}
 use Rattle.cell_bytes.proofs.CellsRead.{Reads, all-room, decoded-all, decoded-cells, fit-count, reads, same, too-many}
-use Rattle.refusal.specs.declared.Refusal.the-variants.{Length}
-use Rattle.block.specs.declared.BlockVerdict.{BlockVerdict}
-use Rattle.block.specs.declared.BlockVerdict.the-variants.{Taken, Refused}
+use Rattle.block.specs.declared.BlockVerdict.the-variants.{Taken}
 use Rattle.block.specs.BlockAnswers.{blockAnswer, cellsLeft, verdictNumbers}
 use Rattle.block.proofs.Refused.{kind-least, kind-largest}
 use Rattle.packing.specs.Packing.{packed, unpackedBlock}
@@ -31,7 +29,6 @@ use Rattle.smooth_tests.proofs.SmoothingTaken.{SmoothingTaken, misfit-alike, sm
 use Rattle.smooth_tests.proofs.SmoothingRefused.{smoothing-length, smoothing-place}
 use Rattle.exact.specs.Smoothing.{cyclicSums}
 use Rattle.smoothing.specs.Promises.{smoothLeft, sumsLeft}
-use Rattle.smooth_bytes.specs.BytesLeft.{smoothBytes}
 use Rattle.smooth_bytes.specs.Inner.{SmoothAnswered}
 
 no-block : {n : ℕ} → n ≡ 0 → (P : ℕ) → Kind-length n P → ⊥
@@ -121,6 +118,33 @@ module _ (bytes weights : List ℕ) (n : ℕ) (e : n ≡ cellCount (CELL * LARGE
       r .2 ∙ ap (λ (m : ℕ). CELL * m) (sym many),
     ));
   }
+
+-- ---- bytes of just n cells
+
+-- they are read as n cells, where a block can have so many
+whole-count : (n bytes : ℕ) → n ≤ LARGEST → bytes ≡ CELL * n → n ≡ cellCount (CELL * LARGEST) bytes
+unfolding cellCount
+whole-count n bytes few e = let none-over : bytes % CELL ≡ 0 = omega arith in let all : bytes / CELL ≡ n = omega arith in
+    rw (eq-eqb (bytes % CELL) 0 none-over, le-leb bytes (CELL * LARGEST) (omega arith)) (sym all)
+
+whole-fit : (n bytes : ℕ) → bytes ≡ CELL * n → n ≡ fitCount n bytes
+unfolding fitCount
+whole-fit n bytes e = rw (eq-eqb bytes (CELL * n) e) refl
+
+whole-read : (n : ℕ) (bytes : List ℕ) (room : List ℤ) → length bytes ≡ CELL * n → length room ≡ n → decoded bytes room ≡ signeds CELL n bytes
+whole-read n bytes room e r = decoded-all bytes room (omega arith) ∙ ap (λ (m : ℕ). signeds CELL m bytes) r
+
+-- samples and weights of n cells each, read into rooms of as many
+module _ (n : ℕ) (few : n ≤ LARGEST) {bytes weights : List ℕ} (long : length bytes ≡ CELL * n) (as-long : length weights ≡ CELL * n) where
+  pub whole-answered : (room other : List ℤ) → length room ≡ n → length other ≡ n → {ys vs : List ℤ} → ys ≡ decoded bytes room → vs ≡ decoded weights other
+      → {answer : ℕ} → answer ≡ packed (blockAnswer (testedSmoothing ys vs)) → (lent zs : List ℤ) → zs ≡ sumsLeft ys vs lent → length zs ≡ n → {after : List ℕ} → after ≡ writtenBack answer zs bytes
+      → SmoothAnswered bytes weights after answer
+  whole-answered room other r o {ys} {vs} is are a lent zs z many l =
+      answered bytes weights n (whole-count n (length bytes) few long) ys vs read n (whole-fit n (length weights) as-long) (are ∙ whole-read n weights other as-long o) a lent zs z
+      (many ∙ sym (ap length read ∙ length-signeds CELL n bytes)) l
+    where
+      read : ys ≡ signeds CELL n bytes
+      read = is ∙ whole-read n bytes room long r
 
 -- ---- the papers' numbers in an answer
 

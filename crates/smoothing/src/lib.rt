@@ -5,7 +5,7 @@ use cyclic_sums::SHORT;
 use kind::BlockKind;
 ghost use mathlib.Core.Path.{_≡_};
 ghost use mathlib.Core.List.{map};
-ghost use Prim.Native.Nat.{ℕ, _+_, _/_, _≤_};
+ghost use Prim.Native.Nat.{ℕ, _+_, _*_, _/_, _≤_};
 ghost use lib.ListN.{length};
 ghost use Rattle.ints.specs.Cells.{cell};
 ghost use Rattle.block.specs.BlockAnswers.{answerNumbers, blockAnswer, verdictNumbers};
@@ -47,15 +47,15 @@ pub fn smooth(cells: &mut [i64], weights: &[i64]) -> Answer
 }
 
 // The same of up to 32 cells, whose plain sums are formed sooner than their spectra, in a list of their own.
-pub fn smooth_short(cells: &[i64], weights: &[i64], sums: &mut [i64]) -> Answer
-    requires { ⌜ (length (now cells) ≤ SHORT) × (length (now sums) ≡ length (now cells)) ⌝ }
+pub fn smooth_short(cells: &[i64], weights: &[i64], turned: &mut [i64], sums: &mut [i64]) -> Answer
+    requires { ⌜ (length (now cells) ≤ SHORT) × (length (now turned) ≡ 2 * length (now cells)) × (length (now sums) ≡ length (now cells)) ⌝ }
     ensures answer { λ r. ⌜ r ≡ blockAnswer (testedSmoothing (now (cells .entry)) (now (weights .entry))) ⌝ }
     ensures sums { λ _. ⌜ now (sums .exit) ≡ sumsLeft (now (cells .entry)) (now (weights .entry)) (now (sums .entry)) ⌝ }
 {
     match smooth_tests::tested(cells, weights) {
         BlockVerdict::Refused(refusal) => Answer::Refused(refusal),
         BlockVerdict::Taken(kind) => {
-            cyclic_sums::fill_sums(cells, weights, sums);
+            cyclic_sums::fill_sums(cells, weights, turned, sums);
             Answer::Done
         }
     }

@@ -34,16 +34,19 @@ enum-known-kind : tie.Need-enum-known-kind
 enum-known-kind c = c .match .keys2
 
 fill-sums-requires : tie.Need-fill-sums-requires
-fill-sums-requires c κs = let s = c .before .before .before .before .before in (s .pre .0, s .pre .1, short (accepted _ _ _ (taken (c .before .before))))
+fill-sums-requires c κs = let p = c .before .before .before .before .before .before .pre in ((p .0, short (accepted _ _ _ (taken (c .before .before .before)))), (p .1, p .2))
 
 same-length : tie.Need-same-length
-same-length c = c .before .fill-sums .kept .1 .1 .0
+same-length c = c .before .before .fill-sums .kept .1 .1 .0
+
+same-length-2 : tie.Need-same-length-2
+same-length-2 c = c .before .before .fill-sums .kept .1 .1 .1 .0
 
 returns : tie.Need-returns
 returns c = promised _ _ _ _ _ _ (sym (c .before .before .before .tested .ensures .0) ∙ c .before .refusal .given .1) refl refl
 
 returns-2 : tie.Need-returns-2
-returns-2 c = promised _ _ _ _ _ _ (taken (c .before .before .before .before)) refl (c .before .fill-sums .ensures)
+returns-2 c = let f = c .before .before in promised _ _ _ _ _ _ (taken (f .before .before .before .before)) refl (f .fill-sums .ensures)
 
 pub smooth-short-spec : {M : Type 1} → statement M
 smooth-short-spec =
@@ -55,4 +58,5 @@ smooth-short-spec =
     fill-sums-requires
     returns
     same-length
+    same-length-2
     returns-2)
