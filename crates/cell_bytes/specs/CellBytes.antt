@@ -13,7 +13,7 @@ abbrev pub CELL : ℕ
 CELL = 8
 
 -- The cells that bytes spell. A count of bytes that is no multiple of eight spells none; since no block has 0 cells and no output should have 0, it is
--- refusal 1, or 2 in an output (laws `left-over-block` and `left-over-output` of `lent_cells`).
+-- refusal 1, or 2 in an output or in weights (laws `left-over-block` and `left-over-output` of `lent_cells`).
 unfoldable pub cellsIn : List ℕ → List ℤ
 unfolding signeds
 cellsIn bytes = cond (eqb (length bytes % CELL) 0) (signeds CELL (length bytes / CELL) bytes) []

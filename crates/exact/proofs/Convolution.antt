@@ -13,7 +13,7 @@ use Rattle.residues.proofs.Congruent.{_≈_, _⊙_, ≈-is, ≈-sym, ≈-times,
 use Rattle.turns.proofs.Turning.{Turning}
 use Rattle.turns.proofs.Angles.{casOf, oppositeOf, at, cas-turns, cas-sum}
 use Rattle.exact.proofs.DirectSums.{direct, directOpposite, sum-parts}
-use Rattle.exact.proofs.CyclicSums.{sum-exchange, sum-shift}
+use Rattle.exact.proofs.FiniteSums.{sum-exchange, sum-shift}
 
 -- the cyclic sum of the samples x and the weights w at moment t
 abbrev pub cyclic : ℕ → (ℕ → ℤ) → (ℕ → ℤ) → ℕ → ℤ

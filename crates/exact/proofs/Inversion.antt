@@ -16,7 +16,7 @@ use Rattle.residues.proofs.Congruent.{_≈_, _⊙_, lin₁, ≈-is, ≈-plus, �
 use Rattle.turns.proofs.Turning.{Turning}
 use Rattle.turns.proofs.Angles.{casOf, at, cosine-after-half, sine-after-half, cosine-turns, sine-turns, cas-product}
 use Rattle.exact.proofs.DirectSums.{direct}
-use Rattle.exact.proofs.CyclicSums.{sum-exchange, sum-halves, sum-zeros, sum-ones, sum-pick}
+use Rattle.exact.proofs.FiniteSums.{sum-exchange, sum-halves, sum-zeros, sum-ones, sum-pick}
 
 -- ---- sums over all lines
 

@@ -1,7 +1,7 @@
 pub mod DirectSums
 pub mod ExactLevels
 pub mod Path
-pub mod CyclicSums
+pub mod FiniteSums
 pub mod Inversion
 pub mod Convolution
 pub mod Limits

@@ -35,7 +35,8 @@ exactSpectrum q P xs = map (λ z. pos (residue z)) (transformed (λ z. z) (cosin
 abbrev pub divided : ℕ → ℤ → ℤ
 divided k z = z *ℤ pos (2 ^ (31 - k))
 
--- two spectra hs and ks combined, source document 001: H(v) Ke(v) + H(−v) Ko(v), with the even and the odd part of the second
+-- two spectra combined, source document 001, VII: H1(v) H2e(v) + H1(−v) H2o(v), where hs are the lines of H1, ks those of H2, and H2e and H2o the even and
+-- the odd part of H2
 module _ (N : ℕ) where
   -- the line −v
   abbrev pub opposite : ℕ → ℕ

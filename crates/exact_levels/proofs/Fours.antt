@@ -1,5 +1,5 @@
 -- Levels 1 and 2 of four cells, modulo 2^31 − 1: a line is a sum where cosine and sine add to 1, and a difference where they add to −1.
-use mathlib.Core.Path.{_≡_, refl, ap}
+use mathlib.Core.Path.{_≡_, refl}
 use mathlib.Core.List.{List, [], _∷_}
 use Prim.Native.Nat.{ℕ, zero, suc, _+_, _*_, _≤_, _<_}
 use native.Mathlib.Omega.{arith}
@@ -12,10 +12,9 @@ use Rattle.spectrum.specs.Levels.{levels}
 use Rattle.spectrum.proofs.Stages.{levels-cell}
 use Rattle.residues.proofs.Congruent.{_≈_, _⊙_, lin₁, ≈-is, ≈-sym, ≈-plus, ≈-minus}
 use Rattle.residues.proofs.Residues.{same-residue}
-use Rattle.turns.specs.Turn.{Pair, CHOSEN, cosineAt, sineAt}
-use Rattle.turns.proofs.Turning.{Turning, turning}
+use Rattle.turns.specs.Turn.{CHOSEN, cosineAt, sineAt}
 use Rattle.turns.proofs.Angles.{cosine-after-half, sine-after-half}
-use Rattle.turns.proofs.Chosen.{chosen-full, chosen-quarter}
+use Rattle.turns.proofs.Chosen.{chosen-turn, cosine-quarter, sine-quarter}
 use Rattle.exact_pair.specs.Pair.{NoneAbove, Stands}
 use Rattle.exact_levels.specs.Ready.{exactLevels}
 
@@ -27,17 +26,14 @@ C j = cosineAt CHOSEN j
 abbrev S : ℕ → ℤ
 S j = sineAt CHOSEN j
 
-turn : Turning C S
-turn = turning CHOSEN chosen-full
-
 at-start : C 0 +ℤ S 0 ≈ pos 1
-at-start = ≈-plus (turn .cosine-start) (turn .sine-start)
+at-start = ≈-plus (chosen-turn .cosine-start) (chosen-turn .sine-start)
 
 at-quarter : C 256 +ℤ S 256 ≈ pos 1
-at-quarter = ≈-is (ap (λ (q : Pair). pos (q .cosine) +ℤ pos (q .sine)) chosen-quarter)
+at-quarter = ≈-plus cosine-quarter sine-quarter
 
 half-on : (j : ℕ) → C j +ℤ S j ≈ pos 1 → C (j + 512) +ℤ S (j + 512) ≈ negℤ (pos 1)
-half-on j h = ≈-plus (cosine-after-half turn j) (sine-after-half turn j) ⊙ lin₁ (negℤ (pos 1)) h (ring (C j ∷ S j ∷ []) (search quotes depth 40) tt)
+half-on j h = ≈-plus (cosine-after-half chosen-turn j) (sine-after-half chosen-turn j) ⊙ lin₁ (negℤ (pos 1)) h (ring (C j ∷ S j ∷ []) (search quotes depth 40) tt)
 
 sum-line : (j : ℕ) → C j +ℤ S j ≈ pos 1 → (a b : ℤ) → a +ℤ (b *ℤ C j +ℤ b *ℤ S j) ≈ a +ℤ b
 sum-line j h a b = lin₁ b h (ring (a ∷ b ∷ C j ∷ S j ∷ []) (search quotes depth 40) tt)

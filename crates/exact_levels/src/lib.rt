@@ -1,5 +1,5 @@
-// The levels of an exact spectrum in its own cells (document 02, Item 7), by the chosen pair's cosines over a quarter of the turn, which are lent: 2^t + 1 of
-// them, equally apart, for 4 × 2^t cells. A level at most doubles a cell, so that none is ever above 2^44.
+// The exact spectrum of a block in its own cells (document 02, Item 7): permuted, then joined level by level, by the chosen pair's cosines over a quarter of
+// the turn, which are lent: 2^t + 1 of them, equally apart, for 4 × 2^t cells. A level doubles the limit on all cells, so that none is ever above 2^44.
 ghost use mathlib.Core.Path.{_≡_};
 ghost use mathlib.Core.List.{List};
 ghost use Prim.Native.Nat.{_*_, _^_};

@@ -1,5 +1,5 @@
 -- Sizes before and after a fold: a cell of n × 2^34, n up to 512, folds to 2^31 + 2^12 at most, and the two products of such cells with a cosine and a sine
--- to less than 2^34.
+-- to 2^33 at most.
 use Prim.Native.Nat.{ℕ, _+_, _*_, _^_, _≤_}
 use native.Mathlib.Nat.{mul-le-mul}
 use native.Mathlib.Omega.{arith}

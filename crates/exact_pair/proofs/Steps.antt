@@ -21,10 +21,10 @@ use Rattle.residues.specs.Folded.{folded}
 use Rattle.residues.proofs.Congruent.{_≈_, _⊙_, lin₁, ≈-is, ≈-minus, ≈-plus, ≈-sym, ≈-times}
 use Rattle.residues.proofs.Folding.{folded-≈}
 use Rattle.residues.proofs.Residues.{centred-≈, centred-small, same-residue}
-use Rattle.turns.specs.Turn.{CHOSEN, Pair, cosineAt, sineAt, steps}
-use Rattle.turns.proofs.Turning.{Turning, steps-below, turning}
+use Rattle.turns.specs.Turn.{CHOSEN, cosineAt, sineAt, steps}
+use Rattle.turns.proofs.Turning.{steps-below}
 use Rattle.turns.proofs.Angles.{sine-by-cosine}
-use Rattle.turns.proofs.Chosen.{chosen-full, chosen-quarter}
+use Rattle.turns.proofs.Chosen.{chosen-turn, cosine-quarter, sine-quarter}
 use Rattle.exact_pair.specs.Pair.{FIRST, Factors, PairReady, Quad, Stands, cosineStep, exactLine, foldedQuad, products}
 use Rattle.exact_pair.proofs.Products.{folded-cell, folded-products}
 use Rattle.exact_pair.proofs.Lines.{Q, Q-line, Q-middle, Q-mirror, Q-zero, line-first, line-second}
@@ -37,15 +37,6 @@ C j = cosineAt CHOSEN j
 
 abbrev S : ℕ → ℤ
 S j = sineAt CHOSEN j
-
-turn : Turning (cosineAt CHOSEN) (sineAt CHOSEN)
-turn = turning CHOSEN chosen-full
-
-cosine-quarter : cosineAt CHOSEN 256 ≈ pos 0
-cosine-quarter = ≈-is (ap (λ (x : Pair). pos (x .cosine)) chosen-quarter)
-
-sine-quarter : sineAt CHOSEN 256 ≈ pos 1
-sine-quarter = ≈-is (ap (λ (x : Pair). pos (x .sine)) chosen-quarter)
 
 step-≈ : (j : ℕ) → cosineStep j ≈ cosineAt CHOSEN j
 step-≈ j = centred-≈ (steps CHOSEN j .cosine)
@@ -96,19 +87,19 @@ module _ {stride : ℕ} {quarter xs : List ℤ} (J : PairReady stride quarter xs
   Done = Stand (exactLine n (cell xs)) (2 * n * FIRST)
 
   abbrev sums : ℕ → ℤ
-  sums = Q turn cosine-quarter sine-quarter k n g (J .some) two-halves quarter-turn (cell xs)
+  sums = Q chosen-turn cosine-quarter sine-quarter k n g (J .some) two-halves quarter-turn (cell xs)
 
   -- the two lines that have a number q which stands for the products of line v
   module _ (v : ℕ) (below : v < n) (y q : ℤ) (is : y ≡ cell xs v) (e : q ≈ sums v) (small : natAbs q ≤ n * FIRST) where
     line-done : Done v (y +ℤ q)
     line-done = (
-      ≈-plus (≈-is is) e ⊙ ≈-sym (line-first turn cosine-quarter sine-quarter k n g (J .some) two-halves quarter-turn (cell xs) v below),
+      ≈-plus (≈-is is) e ⊙ ≈-sym (line-first chosen-turn cosine-quarter sine-quarter k n g (J .some) two-halves quarter-turn (cell xs) v below),
       omega (arith, abs-plus y q, ap natAbs is, cell-small v, small),
     )
 
     opposite-done : Done (n + v) (y -ℤ q)
     opposite-done = (
-      ≈-minus (≈-is is) e ⊙ ≈-sym (line-second turn cosine-quarter sine-quarter k n g (J .some) two-halves quarter-turn (cell xs) v below),
+      ≈-minus (≈-is is) e ⊙ ≈-sym (line-second chosen-turn cosine-quarter sine-quarter k n g (J .some) two-halves quarter-turn (cell xs) v below),
       omega (arith, abs-minus y q, ap natAbs is, cell-small v, small),
     )
 
@@ -153,7 +144,7 @@ module _ {stride : ℕ} {quarter xs : List ℤ} (J : PairReady stride quarter xs
       c-≈ = ≈-is (ec ∙ cosine-entry) ⊙ step-≈ (v * g)
 
       d-≈ : d ≈ S (v * g)
-      d-≈ = ≈-is (ed ∙ sine-entry) ⊙ step-≈ (256 - v * g) ⊙ ≈-sym (sine-by-cosine turn cosine-quarter sine-quarter (v * g) (256 - v * g) rest)
+      d-≈ = ≈-is (ed ∙ sine-entry) ⊙ step-≈ (256 - v * g) ⊙ ≈-sym (sine-by-cosine chosen-turn cosine-quarter sine-quarter (v * g) (256 - v * g) rest)
         where
           rest : v * g + (256 - v * g) ≡ 256
           rest = omega (arith, inside)
@@ -193,10 +184,10 @@ module _ {stride : ℕ} {quarter xs : List ℤ} (J : PairReady stride quarter xs
       r = folded (products (folded (cell ys (n + v))) (folded (cell ys (n + (n - v)))) d (negℤ c))
 
       q-≈ : q ≈ sums v
-      q-≈ = folded-≈ _ ⊙ ≈-plus (≈-times b-≈ c-≈) (≈-times mirrored-≈ d-≈) ⊙ ≈-is (sym (Q-line turn cosine-quarter sine-quarter k n g (J .some) two-halves quarter-turn (cell xs) v some below))
+      q-≈ = folded-≈ _ ⊙ ≈-plus (≈-times b-≈ c-≈) (≈-times mirrored-≈ d-≈) ⊙ ≈-is (sym (Q-line chosen-turn cosine-quarter sine-quarter k n g (J .some) two-halves quarter-turn (cell xs) v some below))
 
       r-≈ : r ≈ sums (n - v)
-      r-≈ = folded-≈ _ ⊙ ≈-plus (≈-times b-≈ d-≈) (≈-times mirrored-≈ (lin₁ (negℤ (pos 1)) c-≈ (ring (c ∷ C (v * g) ∷ []) (search quotes depth 40) tt))) ⊙ ≈-sym (Q-mirror turn cosine-quarter sine-quarter k n g (J .some) two-halves quarter-turn (cell xs) v some below)
+      r-≈ = folded-≈ _ ⊙ ≈-plus (≈-times b-≈ d-≈) (≈-times mirrored-≈ (lin₁ (negℤ (pos 1)) c-≈ (ring (c ∷ C (v * g) ∷ []) (search quotes depth 40) tt))) ⊙ ≈-sym (Q-mirror chosen-turn cosine-quarter sine-quarter k n g (J .some) two-halves quarter-turn (cell xs) v some below)
 
       factors : Factors (folded (cell ys (n + v))) (folded (cell ys (n + (n - v)))) c d
       factors = record { first = b-small; second = mirrored-small; cosine = c-small; sine = d-small }
@@ -246,10 +237,10 @@ module _ {stride : ℕ} {quarter xs : List ℤ} (J : PairReady stride quarter xs
       middle-small m em = rw em (rw (at-middle .one) (room k), rw (at-middle .two) (room (n + k)))
 
       start-≈ : cell ys (n + 0) ≈ sums 0
-      start-≈ = ≈-is (D .start .two) ⊙ ≈-sym (Q-zero turn cosine-quarter sine-quarter k n g (J .some) two-halves quarter-turn (cell xs))
+      start-≈ = ≈-is (D .start .two) ⊙ ≈-sym (Q-zero chosen-turn cosine-quarter sine-quarter k n g (J .some) two-halves quarter-turn (cell xs))
 
       middle-≈ : cell ws (n + k) ≈ sums k
-      middle-≈ = ≈-is (at-middle .two) ⊙ ≈-sym (Q-middle turn cosine-quarter sine-quarter k n g (J .some) two-halves quarter-turn (cell xs))
+      middle-≈ = ≈-is (at-middle .two) ⊙ ≈-sym (Q-middle chosen-turn cosine-quarter sine-quarter k n g (J .some) two-halves quarter-turn (cell xs))
 
       module _ (m : ℕ) (us : List ℤ) (em : m ≡ J .k) (f : us ≡ split ws n m (cell ws (n + m))) where
         last-is : us ≡ split (split ys n 0 (cell ys (n + 0))) n k (cell ws (n + k))

@@ -1,4 +1,4 @@
--- What the join of one pair of halves of an exact spectrum asks of its callers and leaves. It stands in no public promise.
+-- What the join of two halves of an exact spectrum asks of its callers and leaves. It stands in no public promise.
 use mathlib.Core.Path.{_≡_}
 use mathlib.Core.List.{List}
 use Prim.Native.Nat.{ℕ, _+_, _*_, _-_, _^_, _≤_, _<_}
@@ -19,7 +19,7 @@ exactLine n x v = line (λ z. z) (cosineAt CHOSEN) (sineAt CHOSEN) n x (λ j. x 
 
 -- ---- cells that stand for numbers modulo 2^31 − 1
 
--- what a cell may be before level 1; each level at most doubles it
+-- the limit on every cell before level 1; each level doubles the limit
 abbrev pub FIRST : ℕ
 FIRST = 2 ^ 34
 
@@ -49,7 +49,7 @@ quarterOf t = tabulate (2 ^ t + 1) (λ j. cosineStep (j * 2 ^ (8 - t)))
 
 -- ---- what can be joined
 
--- a pair of 4 k cells: the k strides of its quarter have `apart` steps of the turn between neighbouring entries
+-- two halves, of 4 k cells together: the k strides of their quarter have `apart` steps of the turn between neighbouring entries
 pub record PairReady (stride : ℕ) (quarter xs : List ℤ) : Type 0 where
   pub k : ℕ
   pub some : 0 < k

@@ -1,5 +1,5 @@
-// One pair of neighbouring halves of an exact spectrum joined in its own cells (document 02, Item 7): four lines at a time, from the same four cells, by the
-// chosen pair's cosines over a quarter of the turn. A cell holds any number with the right residue, and is folded before it is multiplied.
+// Two neighbouring halves of an exact spectrum joined in their own cells (document 02, Item 7): four lines at a time, from the same four cells, by the
+// cosines of the pair in force, `CHOSEN`, over a quarter of the turn. A cell holds any number with the right residue, and is folded before it is multiplied.
 ghost use mathlib.Core.Path.{_≡_};
 ghost use Prim.Native.Nat.{_*_, _/_};
 ghost use lib.ListN.{length};
@@ -28,7 +28,7 @@ pub fn join(cells: &mut [i64], quarter: &[i64], stride: usize)
     pair::join_plain(cells, n, n / 2);
 }
 
-// Lines v, n - v, n + v and 2n - v, by line v's cosine and sine. For line n - v the two cells change places, and the cosine its sign.
+// Lines v, n - v, n + v and 2n - v, by line v's cosine and sine. For line n - v cosine and sine change places, and the cosine its sign.
 fn join_quad(cells: &mut [i64], n: usize, v: usize, cosine: i64, sine: i64)
     requires { ⌜ Quad n v cosine sine (now cells) ⌝ }
     ensures { λ _. ⌜ now (cells .exit) ≡ foldedQuad n v cosine sine (now (cells .entry)) ⌝ }
@@ -36,14 +36,14 @@ fn join_quad(cells: &mut [i64], n: usize, v: usize, cosine: i64, sine: i64)
     let mirror = n - v;
     let b = residues::folded(cells[n + v]);
     let mirrored = residues::folded(cells[n + mirror]);
-    let q = turned(b, mirrored, cosine, sine);
-    let r = turned(b, mirrored, sine, -cosine);
+    let q = folded_sum(b, mirrored, cosine, sine);
+    let r = folded_sum(b, mirrored, sine, -cosine);
     pair::put_both(cells, n, v, q);
     pair::put_both(cells, n, mirror, r);
 }
 
-// Both products of a line added, and folded.
-fn turned(b: i64, mirrored: i64, cosine: i64, sine: i64) -> i64
+// Both products of a line, added and folded.
+fn folded_sum(b: i64, mirrored: i64, cosine: i64, sine: i64) -> i64
     requires { ⌜ Factors b mirrored cosine sine ⌝ }
     ensures { λ r. ⌜ r ≡ folded (products b mirrored cosine sine) ⌝ }
 {

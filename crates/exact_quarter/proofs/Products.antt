@@ -7,7 +7,7 @@ use mir.Syntax.{w64}
 use mir.Val.{SFits}
 use Rattle.ints.proofs.Abs.{abs-plus, abs-minus, abs-times}
 use Rattle.ints.proofs.Fit.{fits}
-use Rattle.exact_quarter.specs.Stepping.{OnTurn}
+use Rattle.exact_quarter.specs.Stepping.{TwoAngles}
 
 product-small : (x y : ℤ) → natAbs x ≤ 2 ^ 30 → natAbs y ≤ 2 ^ 30 → natAbs (x *ℤ y) ≤ 2 ^ 60
 product-small x y h k = rw (abs-times x y) (mul-le-mul h k)
@@ -15,7 +15,7 @@ product-small x y h k = rw (abs-times x y) (mul-le-mul h k)
 product-fits : (x y : ℤ) → natAbs x ≤ 2 ^ 30 → natAbs y ≤ 2 ^ 30 → SFits w64 (x *ℤ y)
 product-fits x y h k = fits (x *ℤ y) (omega (arith, product-small x y h k))
 
-module _ {a b c d : ℤ} (on : OnTurn a b c d) where
+module _ {a b c d : ℤ} (on : TwoAngles a b c d) where
   pub cosines-fit : SFits w64 (a *ℤ c)
   cosines-fit = product-fits a c (on .first-cosine) (on .second-cosine)
 

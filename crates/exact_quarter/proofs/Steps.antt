@@ -7,14 +7,14 @@ use native.Mathlib.Nat.{le-of-lt}
 use lib.IntN.{ℤ, pos, natAbs, _+ℤ_, _-ℤ_, _*ℤ_}
 use Rattle.ints.proofs.Order.{equal, equal-is}
 use Rattle.residues.specs.Residue.{centred, residue}
-use Rattle.residues.proofs.Congruent.{_≈_, _⊙_, ≈-is, ≈-sym, ≈-plus, ≈-minus, ≈-times}
+use Rattle.residues.proofs.Congruent.{_≈_, _⊙_, ≈-sym, ≈-plus, ≈-minus, ≈-times}
 use Rattle.residues.proofs.Residues.{same-number, centred-≈, centred-small, residue-unique}
-use Rattle.turns.specs.Turn.{CHOSEN, Pair, cosineAt, sineAt, steps}
-use Rattle.turns.proofs.Turning.{Turning, turning, steps-below}
-use Rattle.turns.proofs.Chosen.{chosen-full, chosen-quarter}
+use Rattle.turns.specs.Turn.{CHOSEN, cosineAt, sineAt, steps}
+use Rattle.turns.proofs.Turning.{steps-below}
+use Rattle.turns.proofs.Chosen.{chosen-turn, cosine-quarter, sine-quarter}
 use Rattle.turns.proofs.Angles.{sine-by-cosine}
 use Rattle.exact_pair.specs.Pair.{cosineStep, sineStep}
-use Rattle.exact_quarter.specs.Stepping.{OnTurn}
+use Rattle.exact_quarter.specs.Stepping.{TwoAngles}
 
 -- ---- how small they are
 
@@ -44,15 +44,12 @@ sine-one = equal-is (sineStep 1) (pos (CHOSEN .sine)) tt
 
 -- ---- two angles added
 
-turn : Turning (cosineAt CHOSEN) (sineAt CHOSEN)
-turn = turning CHOSEN chosen-full
-
 module _ (i j : ℕ) where
   cosine-≈ : cosineAt CHOSEN (i + j) ≈ cosineStep i *ℤ cosineStep j -ℤ sineStep i *ℤ sineStep j
-  cosine-≈ = turn .cosine-sum i j ⊙ ≈-sym (≈-minus (≈-times (centred-≈ _) (centred-≈ _)) (≈-times (centred-≈ _) (centred-≈ _)))
+  cosine-≈ = chosen-turn .cosine-sum i j ⊙ ≈-sym (≈-minus (≈-times (centred-≈ _) (centred-≈ _)) (≈-times (centred-≈ _) (centred-≈ _)))
 
   sine-≈ : sineAt CHOSEN (i + j) ≈ cosineStep i *ℤ sineStep j +ℤ sineStep i *ℤ cosineStep j
-  sine-≈ = turn .sine-sum i j ⊙ ≈-sym (≈-plus (≈-times (centred-≈ _) (centred-≈ _)) (≈-times (centred-≈ _) (centred-≈ _)))
+  sine-≈ = chosen-turn .sine-sum i j ⊙ ≈-sym (≈-plus (≈-times (centred-≈ _) (centred-≈ _)) (≈-times (centred-≈ _) (centred-≈ _)))
 
   pub cosine-next : centred (residue (cosineStep i *ℤ cosineStep j -ℤ sineStep i *ℤ sineStep j)) ≡ cosineStep (i + j)
   cosine-next = ap centred (residue-unique _ _ (steps-below CHOSEN (i + j) .0) cosine-≈)
@@ -63,13 +60,7 @@ module _ (i j : ℕ) where
 -- ---- the sine of a step is the cosine of what is left to the quarter
 
 pub sine-is-cosine : (i j : ℕ) → i + j ≡ 256 → sineStep i ≡ cosineStep j
-sine-is-cosine i j e = ap centred (same-number (steps CHOSEN i .sine) (steps CHOSEN j .cosine) (steps-below CHOSEN i .1) (steps-below CHOSEN j .0) (sine-by-cosine turn quarter-cosine quarter-sine i j e))
-  where
-    quarter-cosine : cosineAt CHOSEN 256 ≈ pos 0
-    quarter-cosine = ≈-is (ap (λ (x : Pair). pos (x .cosine)) chosen-quarter)
-
-    quarter-sine : sineAt CHOSEN 256 ≈ pos 1
-    quarter-sine = ≈-is (ap (λ (x : Pair). pos (x .sine)) chosen-quarter)
+sine-is-cosine i j e = ap centred (same-number (steps CHOSEN i .sine) (steps CHOSEN j .cosine) (steps-below CHOSEN i .1) (steps-below CHOSEN j .0) (sine-by-cosine chosen-turn cosine-quarter sine-quarter i j e))
 
 -- ---- a cosine and a sine that are those of step j
 
@@ -78,7 +69,7 @@ pub record AtStep (j : ℕ) (c s : ℤ) : Type 0 where
   pub sine : s ≡ sineStep j
 
 module _ {i j : ℕ} {a b c d : ℤ} (one : AtStep i a b) (other : AtStep j c d) where
-  pub on-turn : OnTurn a b c d
+  pub on-turn : TwoAngles a b c d
   on-turn = record {
     first-cosine = rw (one .cosine) (cosine-small i);
     first-sine = rw (one .sine) (sine-small i);

@@ -7,7 +7,7 @@ use lib.ListN.{length}
 use Rattle.exact_pair.specs.Pair.{cosineStep, sineStep}
 
 -- two angles, the cosine and the sine of each, within ±2^30
-pub record OnTurn (a b c d : ℤ) : Type 0 where
+pub record TwoAngles (a b c d : ℤ) : Type 0 where
   pub first-cosine : natAbs a ≤ 2 ^ 30
   pub first-sine : natAbs b ≤ 2 ^ 30
   pub second-cosine : natAbs c ≤ 2 ^ 30

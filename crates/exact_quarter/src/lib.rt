@@ -5,7 +5,7 @@ ghost use lib.IntN.{_+ℤ_, _-ℤ_, _*ℤ_};
 ghost use lib.ListN.{length};
 ghost use Rattle.exact_pair.specs.Pair.{cosineStep, quarterOf, sineStep};
 ghost use Rattle.residues.specs.Residue.{centred, residue};
-ghost use Rattle.exact_quarter.specs.Stepping.{Fills, OnTurn};
+ghost use Rattle.exact_quarter.specs.Stepping.{Fills, TwoAngles};
 
 // The chosen pair: cosine and sine of one step of 1,024.
 const COSINE: i64 = 28670693;
@@ -63,17 +63,17 @@ fn fill_by(quarter: &mut [i64], cosine: i64, sine: i64)
     }
 }
 
-// The cosine of two angles added.
+// The cosine of the sum of two angles: a and b are cosine and sine of the one, c and d of the other.
 fn cosine_of_sum(a: i64, b: i64, c: i64, d: i64) -> i64
-    requires { ⌜ OnTurn a b c d ⌝ }
+    requires { ⌜ TwoAngles a b c d ⌝ }
     ensures { λ r. ⌜ r ≡ centred (residue (a *ℤ c -ℤ b *ℤ d)) ⌝ }
 {
     residues::centred(a * c - b * d)
 }
 
-// The sine of two angles added.
+// The sine of the same.
 fn sine_of_sum(a: i64, b: i64, c: i64, d: i64) -> i64
-    requires { ⌜ OnTurn a b c d ⌝ }
+    requires { ⌜ TwoAngles a b c d ⌝ }
     ensures { λ r. ⌜ r ≡ centred (residue (a *ℤ d +ℤ b *ℤ c)) ⌝ }
 {
     residues::centred(a * d + b * c)

@@ -60,7 +60,7 @@ pub extern "C" fn hartley_backward(cells: &mut [u8]) -> u64
     block_bytes::backward(cells)
 }
 
-// The block that the bytes spell, smoothed by the weights that bytes spell, in its place.
+// The block that the bytes spell, smoothed by the weights that the other bytes spell, in its place.
 #[no_mangle]
 pub extern "C" fn hartley_smooth(cells: &mut [u8], weights: &[u8]) -> u64
     ensures answer { λ r. ⌜ r ≡ packed (blockAnswer (testedSmoothing (cellsIn (now (cells .entry))) (cellsIn (now (weights .entry))))) ⌝ }

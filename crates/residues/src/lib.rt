@@ -9,7 +9,8 @@ const MODULUS: i64 = 2147483647;
 // The least number that stands for one below 0: 2^30.
 const UPPER_HALF: i64 = 1073741824;
 
-// A number with the residue of x, and not much above 2^31 where x is not much above 2^62: as often as 2^31 goes into x, the modulus is taken away.
+// A number with the residue of x: as often as 2^31 goes into x, the modulus is taken away. Where x is at most h × 2^31 in magnitude, it is at most
+// 2^31 + h: little more than 2^31 for a cell, and little more than 2^32 for two products.
 pub fn folded(x: i64) -> i64
     ensures { λ r. ⌜ r ≡ folded x ⌝ }
 {

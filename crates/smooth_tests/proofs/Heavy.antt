@@ -3,7 +3,8 @@
 use mathlib.Core.Path.{_≡_, refl}
 use mathlib.Core.Bool.{Bool, true, false}
 use mathlib.Core.List.{List, [], _∷_}
-use Prim.Native.Nat.{ℕ, zero, suc, _+_, _≤_, _<_}
+use Prim.Native.Nat.{ℕ, zero, suc, _+_, _-_, _≤_, _<_}
+use native.Mathlib.Nat.{add-zero, add-suc}
 use native.Mathlib.Omega.{arith}
 use borrow.Author.Tests.{lt-ltb, le-ltb, ltb-true, ltb-false}
 use lib.Dec.{ltb}
@@ -73,3 +74,23 @@ module _ (ws : List ℤ) where
 
   pub heavy-first : firstHeavy ws < length ws → (LARGEST-WEIGHTS < running ws (suc (firstHeavy ws))) × (running ws (firstHeavy ws) ≤ LARGEST-WEIGHTS)
   heavy-first h = (omega (arith, found .heavy h), omega (arith, found .before))
+
+  -- the magnitudes of more weights add to more
+  running-grows : (n k : ℕ) → running ws n ≤ running ws (n + k)
+  running-grows n zero = rw (add-zero n) (omega arith)
+  running-grows n (suc k) = rw (add-suc n k) (one-more (n + k) (running-grows n k))
+    where
+      one-more : (m : ℕ) → running ws n ≤ running ws m → running ws n ≤ running ws (suc m)
+      one-more m h = unfold running in omega (arith, h)
+
+  -- so some weight passes the limit just where all of them together do
+  pub heavy-together : ltb LARGEST-WEIGHTS (running ws (length ws)) ≡ ltb (firstHeavy ws) (length ws)
+  heavy-together = go (ltb (firstHeavy ws) (length ws)) refl
+    where
+      all : firstHeavy ws < length ws → suc (firstHeavy ws) + (length ws - suc (firstHeavy ws)) ≡ length ws
+      all h = omega arith
+
+      go : (t : Bool) → ltb (firstHeavy ws) (length ws) ≡ t → ltb LARGEST-WEIGHTS (running ws (length ws)) ≡ t
+      go true e = let h = ltb-true (firstHeavy ws) (length ws) e in
+          lt-ltb LARGEST-WEIGHTS (running ws (length ws)) (omega (arith, heavy-first h .0, rw (all h) at (running-grows (suc (firstHeavy ws)) (length ws - suc (firstHeavy ws)))))
+      go false e = le-ltb LARGEST-WEIGHTS (running ws (length ws)) (heavy-none (ltb-false (firstHeavy ws) (length ws) e))

@@ -16,6 +16,7 @@ use Rattle.block.specs.Tests.{firstLoud}
 use Rattle.block.specs.TestTable.{firstGiven}
 use Rattle.block.specs.BlockAnswers.{blockNumbers}
 use Rattle.smooth_tests.specs.Tests.{firstHeavy, testedSmoothing, smoothingNumbers}
+use Rattle.smooth_tests.proofs.Heavy.{heavy-together}
 
 positive : (m : ℕ) → eqb (suc m) 0 ≡ false
 positive m = ne-eqb (suc m) 0 (λ e. omega arith)
@@ -28,8 +29,8 @@ module _ (xs ws : List ℤ) where
   by-four zero unfit loud heavy e f g h = rw e refl
   by-four (suc m) true loud heavy e f g h = rw (e, positive m, f) refl
   by-four (suc m) false true heavy e f g h = rw (e, positive m, f, g) refl
-  by-four (suc m) false false true e f g h = rw (e, positive m, f, g, h) refl
-  by-four (suc m) false false false e f g h = rw (e, positive m, f, g, h) refl
+  by-four (suc m) false false true e f g h = rw (heavy-together ws, e, positive m, f, g, h) refl
+  by-four (suc m) false false false e f g h = rw (heavy-together ws, e, positive m, f, g, h) refl
 
   pub both-ways : {r : BlockVerdict} → r ≡ testedSmoothing xs ws → (r ≡ testedSmoothing xs ws) × (blockNumbers r ≡ smoothingNumbers xs ws)
   both-ways e = (e, ap blockNumbers e ∙ by-four _ _ _ _ refl refl refl refl)

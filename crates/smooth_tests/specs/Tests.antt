@@ -12,13 +12,13 @@ use Rattle.refusal.specs.declared.Refusal.the-variants.{Misfit, Loud, Weights}
 use Rattle.block.specs.declared.BlockVerdict.{BlockVerdict}
 use Rattle.block.specs.Tests.{firstLoud, ofLength, refusedIf}
 use Rattle.block.specs.TestTable.{firstGiven}
-use Rattle.exact.specs.Smoothing.{LARGEST-WEIGHTS}
+use Rattle.exact.specs.Smoothing.{LARGEST-WEIGHTS, running}
 
--- 20, weights: the place of the first weight where the sum of the magnitudes, which is `sum` before the first, passes the limit; the number of weights
+-- 20, weights: the place of the first weight where the sum of the magnitudes, which is `before` ahead of the first, passes the limit; the number of weights
 -- where none does
 unfoldable pub firstHeavyFrom : ℕ → List ℤ → ℕ
-firstHeavyFrom sum [] = 0
-firstHeavyFrom sum (w ∷ ws) = let running = sum + natAbs w in cond (ltb LARGEST-WEIGHTS running) 0 (suc (firstHeavyFrom running ws))
+firstHeavyFrom before [] = 0
+firstHeavyFrom before (w ∷ ws) = let after = before + natAbs w in cond (ltb LARGEST-WEIGHTS after) 0 (suc (firstHeavyFrom after ws))
 
 unfoldable pub firstHeavy : List ℤ → ℕ
 unfolding firstHeavyFrom
@@ -36,10 +36,10 @@ testedSmoothing xs ws =
     let after-3 = refusedIf (ltb loud N) (Loud loud) after-2 in
     refusedIf (ltb heavy (length ws)) (Weights heavy) after-3
 
--- the same once more, in numbers alone: P of what is taken, or number and place of the first row that is given
+-- the same once more, in numbers alone and with 20 as the paper has it: P of what is taken, or number and place of the first row that is given
 abbrev pub smoothingNumbers : List ℤ → List ℤ → List ℕ
 smoothingNumbers xs ws =
     let N = length xs in
     let loud = firstLoud (negℤ (pos 32768)) (pos 32767) xs in
     let heavy = firstHeavy ws in
-    firstGiven ((eqb (exponent 10 N) 0, 1, 0) ∷ (not (eqb (length ws) N), 2, 0) ∷ (ltb loud N, 3, loud) ∷ (ltb heavy (length ws), 20, heavy) ∷ []) (exponent 10 N)
+    firstGiven ((eqb (exponent 10 N) 0, 1, 0) ∷ (not (eqb (length ws) N), 2, 0) ∷ (ltb loud N, 3, loud) ∷ (ltb 32767 (running ws (length ws)), 20, heavy) ∷ []) (exponent 10 N)

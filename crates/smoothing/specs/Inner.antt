@@ -20,7 +20,7 @@ pub record Accepted (P : ℕ) (xs ws : List ℤ) : Type 0 where
   pub quiet : (i : ℕ) → natAbs (cell xs i) ≤ LOUDEST-SAMPLE
   pub light : running ws (2 ^ P) ≤ LARGEST-WEIGHTS
 
--- a line of a spectrum, or the sum or difference of two, that can be folded and multiplied: no level leaves a larger one
+-- a line of a spectrum, which is at most 1024 * FIRST, or two added or subtracted: small enough to be folded and then multiplied by a number up to 2^30
 abbrev pub LineRoom : ℤ → Type 0
 LineRoom z = natAbs z ≤ 2 * (1024 * FIRST)
 
@@ -34,7 +34,7 @@ pub record Spectra (hs ks : List ℤ) : Type 0 where
   pub first : NoneAbove (1024 * FIRST) hs
   pub second : NoneAbove (1024 * FIRST) ks
 
--- two lines of them
+-- line v and the opposite one can be combined: both spectra have them, and they are small enough
 pub record Lines (v opposite : ℕ) (hs ks : List ℤ) : Type 0 where
   pub as-long : length ks ≡ length hs
   pub inside : v < length hs

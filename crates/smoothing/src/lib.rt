@@ -19,12 +19,13 @@ ghost use Rattle.smooth_tests.specs.Tests.{testedSmoothing};
 ghost use Rattle.smoothing.specs.Promises.{AnyPair, smoothLeft, sumsLeft};
 ghost use Rattle.smoothing.specs.Inner.{Accepted, LineRoom, Lines, Spectra, linesCombined};
 
-// The cells of a middle room. A call clears its rooms, and a block of the middle size should not wait for those of the largest.
+// The largest block whose rooms are middle ones: a call clears its rooms, and such a block should not wait for those of the largest.
 const MIDDLE: usize = 128;
 
 // The cosines that a block of as many cells takes, over a quarter of the turn, both ends among them.
 const MIDDLE_QUARTER: usize = MIDDLE / 4 + 1;
 
+// The same for the largest block.
 const QUARTER: usize = BlockKind::LARGEST / 4 + 1;
 
 // A half modulo 2^31 − 1: twice 2^30 is 2^31, which is 1.
@@ -46,7 +47,7 @@ pub fn smooth(cells: &mut [i64], weights: &[i64]) -> Answer
     }
 }
 
-// The same of up to 32 cells, whose plain sums are formed sooner than their spectra, in a list of their own.
+// The same of up to 32 samples, whose plain sums are formed sooner than their spectra: the sums go to a list of their own, and the cells are only read.
 pub fn smooth_short(cells: &[i64], weights: &[i64], turned: &mut [i64], sums: &mut [i64]) -> Answer
     requires { ⌜ (length (now cells) ≤ SHORT) × (length (now turned) ≡ 2 * length (now cells)) × (length (now sums) ≡ length (now cells)) ⌝ }
     ensures answer { λ r. ⌜ r ≡ blockAnswer (testedSmoothing (now (cells .entry)) (now (weights .entry))) ⌝ }
@@ -137,7 +138,7 @@ fn combine(cells: &mut [i64], spectrum: &[i64])
     }
 }
 
-// Line v and its opposite: both have the even part of the second spectrum there, and its odd part with either sign.
+// Line v and its opposite: both take the even part of the second spectrum; line v takes its odd part as it is, the opposite line with the other sign.
 fn combine_lines(cells: &mut [i64], spectrum: &[i64], v: usize, opposite: usize)
     requires { ⌜ Lines v opposite (now cells) (now spectrum) ⌝ }
     ensures { λ _. ⌜ now (cells .exit) ≡ linesCombined v opposite (now (cells .entry)) (now (spectrum .entry)) ⌝ }
@@ -166,13 +167,13 @@ fn restore(cells: &mut [i64], p: usize)
     let mut t = 0;
     while t < cells.len() {
         let z = cells[t];
-        cells[t] = restored(z, p);
+        cells[t] = restored(p, z);
         t += 1;
     }
 }
 
-// One of them: z divided by 2^p, which is z times 2^(31 − p), and the number between −(2^30 − 1) and 2^30 − 1 for which that stands.
-fn restored(z: i64, p: usize) -> i64
+// One of them: z divided by 2^p modulo 2^31 − 1, that is, times 2^(31 − p), as the number between −(2^30 − 1) and 2^30 − 1.
+fn restored(p: usize, z: i64) -> i64
     requires { ⌜ (1 ≤ p) × (p ≤ 10) × LineRoom z ⌝ }
     ensures { λ r. ⌜ r ≡ restored p z ⌝ }
 {

@@ -8,7 +8,9 @@ use lib.Dec.{T, eqb, eqb→eq}
 use lib.Ieee.Fits.{and-l, and-r}
 use lib.IntN.{pos, _+ℤ_, _*ℤ_}
 use Rattle.residues.specs.Residue.{residue}
-use Rattle.turns.specs.Turn.{Pair, START, turned, steps, FullTurn, CHOSEN}
+use Rattle.residues.proofs.Congruent.{_≈_, ≈-is}
+use Rattle.turns.specs.Turn.{Pair, START, turned, steps, FullTurn, CHOSEN, cosineAt, sineAt}
+use Rattle.turns.proofs.Turning.{Turning, turning}
 
 -- whether two pairs are the same
 abbrev same : Pair → Pair → Bool
@@ -73,3 +75,14 @@ chosen-full = record {
 
 pub chosen-quarter : steps CHOSEN 256 ≡ record { cosine = 0; sine = 1 }
 chosen-quarter = same-pair (steps CHOSEN 256) (record { cosine = 0; sine = 1 }) quarter
+
+-- ---- what the functions use of it
+
+pub chosen-turn : Turning (cosineAt CHOSEN) (sineAt CHOSEN)
+chosen-turn = turning CHOSEN chosen-full
+
+pub cosine-quarter : cosineAt CHOSEN 256 ≈ pos 0
+cosine-quarter = ≈-is (ap (λ (x : Pair). pos (x .cosine)) chosen-quarter)
+
+pub sine-quarter : sineAt CHOSEN 256 ≈ pos 1
+sine-quarter = ≈-is (ap (λ (x : Pair). pos (x .sine)) chosen-quarter)

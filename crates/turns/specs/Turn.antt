@@ -15,7 +15,7 @@ pub record Pair : Type 0 where
 abbrev pub START : Pair
 START = record { cosine = 1; sine = 0 }
 
--- one turn after the other: (a, b) and (c, d) make (ac − bd, ad + bc)
+-- x turned on by y: (a, b) and (c, d) make (ac − bd, ad + bc), modulo 2^31 − 1
 unfoldable pub turned : Pair → Pair → Pair
 unfolding residue
 turned x y = record {
@@ -42,7 +42,7 @@ cosineAt q j = pos (steps q j .cosine)
 abbrev pub sineAt : Pair → ℕ → ℤ
 sineAt q j = pos (steps q j .sine)
 
--- the pair in force, of the 512 there are the one with the least cosine whose quarter turn is 0, 1. Its turn is full (`chosen-full` in proofs/Chosen),
+-- the pair in force: of the 512 pairs of residues with a full turn, the one with the least cosine whose quarter turn is 0, 1. Its turn is full (`chosen-full` in proofs/Chosen),
 -- and any other pair with a full turn gives the same results (`smoothing-exact` of crate exact).
 abbrev pub CHOSEN : Pair
 CHOSEN = record { cosine = 28670693; sine = 368578328 }

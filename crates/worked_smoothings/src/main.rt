@@ -15,7 +15,7 @@ fn main() {
     refusals();
 }
 
-// Weights of one cell turn the block round.
+// One weight that is not 0 moves the block round the cycle, and multiplies it.
 fn shifts() {
     smooth(&mut [1, 2, 3, 4], &[1, 0, 0, 0]);
     smooth(&mut [1, 2, 3, 4], &[0, 1, 0, 0]);
@@ -23,7 +23,7 @@ fn shifts() {
     smooth(&mut [1, 2, 3, 4], &[0, 0, -3, 0]);
 }
 
-// Weights of more cells.
+// More than one weight that is not 0.
 fn sums() {
     smooth(&mut [3, -5], &[2, 1]);
     smooth(&mut [1, 2, 3, 4], &[20000, -12767, 0, 0]);

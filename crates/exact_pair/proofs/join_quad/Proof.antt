@@ -80,17 +80,17 @@ first-told c = let s = start c in toZ-ofZ (sfits-of (c .folded .ok)) ∙ c .fold
 second-told : (c : tie.After-folded2) → let a = start (c .before .before) .args in toZ w64 (ofZ w64 (c .folded2 .result)) ≡ folded (cell (now (a .cells)) (a .n + (a .n - a .v)))
 second-told c = let s = start (c .before .before) in toZ-ofZ (sfits-of (c .folded2 .ok)) ∙ c .folded2 .ensures ∙ ap folded (second-back (s .pre))
 
-abbrev begin : tie.After-turned → tie.Start
+abbrev begin : tie.After-folded-sum → tie.Start
 begin c = start (c .before .before .before)
 
-line-told : (c : tie.After-turned) → let a = begin c .args in
-    toZ w64 (ofZ w64 (c .turned .result)) ≡ folded (products (folded (cell (now (a .cells)) (a .n + a .v))) (folded (cell (now (a .cells)) (a .n + (a .n - a .v)))) (a .cosine) (a .sine))
-line-told c = let s = begin c in toZ-ofZ (sfits-of (c .turned .ok)) ∙ c .turned .ensures
+line-told : (c : tie.After-folded-sum) → let a = begin c .args in
+    toZ w64 (ofZ w64 (c .folded-sum .result)) ≡ folded (products (folded (cell (now (a .cells)) (a .n + a .v))) (folded (cell (now (a .cells)) (a .n + (a .n - a .v)))) (a .cosine) (a .sine))
+line-told c = let s = begin c in toZ-ofZ (sfits-of (c .folded-sum .ok)) ∙ c .folded-sum .ensures
     ∙ rw (first-told (c .before .before .before), second-told (c .before), toZ-ofZ (s .fits .cosine), toZ-ofZ (s .fits .sine)) refl
 
-mirror-told : (c : tie.After-turned2) → let a = begin (c .before) .args in
-    toZ w64 (ofZ w64 (c .turned2 .result)) ≡ folded (products (folded (cell (now (a .cells)) (a .n + a .v))) (folded (cell (now (a .cells)) (a .n + (a .n - a .v)))) (a .sine) (negℤ (a .cosine)))
-mirror-told c = let b = c .before in let s = begin b in toZ-ofZ (sfits-of (c .turned2 .ok)) ∙ c .turned2 .ensures
+mirror-told : (c : tie.After-folded-sum2) → let a = begin (c .before) .args in
+    toZ w64 (ofZ w64 (c .folded-sum2 .result)) ≡ folded (products (folded (cell (now (a .cells)) (a .n + a .v))) (folded (cell (now (a .cells)) (a .n + (a .n - a .v)))) (a .sine) (negℤ (a .cosine)))
+mirror-told c = let b = c .before in let s = begin b in toZ-ofZ (sfits-of (c .folded-sum2 .ok)) ∙ c .folded-sum2 .ensures
     ∙ rw (first-told (b .before .before .before), second-told (b .before), toZ-ofZ (s .fits .cosine), toZ-ofZ (s .fits .sine), toZ-ofZ (minus-fits (s .args .cosine) (s .pre .cosine)), minus-is (s .args .cosine)) refl
 
 sub-mirror : tie.Need-sub-mirror
@@ -120,14 +120,14 @@ slice-copy-out-folded-2 c = search needs
 folded-requires-2 : tie.Need-folded-requires-2
 folded-requires-2 c κs = search needs
 
-turned-requires : tie.Need-turned-requires
-turned-requires c κs = let s = start (c .before .before) in rw (first-told (c .before .before), second-told c, toZ-ofZ (s .fits .cosine), toZ-ofZ (s .fits .sine)) (factors (s .pre))
+folded-sum-requires : tie.Need-folded-sum-requires
+folded-sum-requires c κs = let s = start (c .before .before) in rw (first-told (c .before .before), second-told c, toZ-ofZ (s .fits .cosine), toZ-ofZ (s .fits .sine)) (factors (s .pre))
 
-sub-turned : tie.Need-sub-turned
-sub-turned c = let s = begin c in rw (toZ-ofZ (s .fits .cosine)) (minus-fits (s .args .cosine) (s .pre .cosine))
+sub-folded-sum : tie.Need-sub-folded-sum
+sub-folded-sum c = let s = begin c in rw (toZ-ofZ (s .fits .cosine)) (minus-fits (s .args .cosine) (s .pre .cosine))
 
-turned-requires-2 : tie.Need-turned-requires-2
-turned-requires-2 c κs = let s = begin c in
+folded-sum-requires-2 : tie.Need-folded-sum-requires-2
+folded-sum-requires-2 c κs = let s = begin c in
     rw (first-told (c .before .before .before), second-told (c .before), toZ-ofZ (s .fits .cosine), toZ-ofZ (s .fits .sine), toZ-ofZ (minus-fits (s .args .cosine) (s .pre .cosine)), minus-is (s .args .cosine)) (mirror-factors (s .pre))
 
 put-both-requires : tie.Need-put-both-requires
@@ -159,9 +159,9 @@ join-quad-spec =
     mul-folded-2
     slice-copy-out-folded-2
     folded-requires-2
-    turned-requires
-    sub-turned
-    turned-requires-2
+    folded-sum-requires
+    sub-folded-sum
+    folded-sum-requires-2
     put-both-requires
     put-both-requires-2
     same-length

@@ -1,4 +1,4 @@
--- `step_between` is right because it begins with one step, and each turn of the loop adds the angle to itself, which makes 2^(8 − t) steps in 8 − t turns.
+-- `step_between` is right because it begins with one step, and each round adds the angle to itself, which makes 2^(8 − t) steps in 8 − t rounds.
 use mathlib.Core.Path.{_≡_, sym, _∙_, ap}
 use Prim.Native.Nat.{ℕ, suc, _+_, _-_, _^_, _≤_}
 use native.Mathlib.Omega.{arith}

@@ -1,5 +1,4 @@
--- Laws of finite sums, each by induction on the number of terms: exchanged, in two halves, picked, and shifted round a cycle, the last two modulo
--- 2^31 − 1.
+-- Laws of finite sums: exchanged and in two halves; and modulo 2^31 − 1 of zeros, of ones, picked, and shifted round a cycle.
 use mathlib.Core.Path.{_≡_, refl, sym, _∙_, ap}
 use mathlib.Core.List.{[], _∷_}
 use Prim.Native.Nat.{ℕ, zero, suc, _+_, _<_}

@@ -1,4 +1,4 @@
--- `turned` is right because folded cells, cosine and sine leave room for both products and for their sum.
+-- `folded_sum` is right because folded cells, cosine and sine leave room for both products and for their sum.
 use borrow.Author.Needs.{sfits-of}
 use mathlib.Core.Path.{_∙_, ap}
 use native.Mathlib.Omega.{arith}
@@ -10,8 +10,8 @@ use Rattle.ints.proofs.Fit.{fits}
 use Rattle.residues.specs.Folded.{folded}
 use Rattle.exact_pair.specs.Pair.{Factors}
 use Rattle.exact_pair.proofs.Products.{first-size, second-size, products-size}
-use Rattle.exact_pair.proofs.turned.Statement.{statement}
-use Rattle.exact_pair.proofs.turned.Tie as tie
+use Rattle.exact_pair.proofs.folded_sum.Statement.{statement}
+use Rattle.exact_pair.proofs.folded_sum.Tie as tie
 
 module _ {b mirrored c d : ℤ} (F : Factors b mirrored c d) where
   first-fits : SFits w64 (b *ℤ c)
@@ -40,5 +40,5 @@ returns c = let s = c .before in let f = s .fits in
     toZ-ofZ (sfits-of (c .folded .ok)) ∙ c .folded .ensures
     ∙ ap folded (rw (toZ-ofZ (f .b), toZ-ofZ (f .cosine), toZ-ofZ (f .mirrored), toZ-ofZ (f .sine), toZ-ofZ (first-fits (s .pre)), toZ-ofZ (second-fits (s .pre))) (toZ-ofZ (sum-fits (s .pre))))
 
-pub turned-spec : {M : Type 1} → statement M
-turned-spec = tie.close (tie.spec mul-folded mul-folded-2 add-folded folded-requires returns)
+pub folded-sum-spec : {M : Type 1} → statement M
+folded-sum-spec = tie.close (tie.spec mul-folded mul-folded-2 add-folded folded-requires returns)
