@@ -812,7 +812,6 @@ static void scattered_c_smooth(void)
         fail("the scattered smoothing refuses");
 }
 
-/* A fresh block of 2^p random samples, and as many random weights: each may have its share of 32,767, of either sign. */
 static void narrowed_c_smooth(void)
 {
     memcpy(warm_cells, fresh_cells, CELL * n);
@@ -820,6 +819,7 @@ static void narrowed_c_smooth(void)
         fail("the narrowed smoothing refuses");
 }
 
+/* A fresh block of 2^p random samples, and as many random weights: each may have its share of 32,767, of either sign. */
 static void set_smoothing(size_t p)
 {
     set_block(p, 1);

@@ -29,7 +29,7 @@ uint64_t rule_bound_plain(const int64_t *cells, size_t n);
 
 /* Smooths the n cells in place by so many weights, by the plain sum and not by spectra. The plain one makes one sum
    after another. The scattered one answers and leaves the same, but adds the products of one cell after another to all
-   sums, of which the compiler makes vectors. */
+   sums, of which the compiler makes vectors. The narrowed one cuts cells and weights to 16 bits after the tests. */
 uint64_t rule_smooth_plain(int64_t *cells, size_t n, const int64_t *weights, size_t count);
 uint64_t rule_smooth_scattered(int64_t *cells, size_t n, const int64_t *weights, size_t count);
 uint64_t rule_smooth_narrowed(int64_t *cells, size_t n, const int64_t *weights, size_t count);

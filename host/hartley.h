@@ -31,7 +31,8 @@
  * Version 4 has one call more, hartley_save, and one that reads its answer, hartley_used; all of version 3 is as it
  * was. Version 5 has one call more, hartley_bound, and one that reads its answer, hartley_distance; all of version 4 is
  * as it was, and forward keeps within the bound, which is at most what it kept within before. Version 6 has one call
- * more, hartley_smooth, and one refusal more, 20; all of version 5 is as it was.
+ * more, hartley_smooth, and one refusal more, 20; all of version 5 is as it was. Smoothing takes more stack than the
+ * others, so HARTLEY_STACK_BYTES is 40,960, where it was 32,768.
  */
 #ifndef HARTLEY_H
 #define HARTLEY_H
@@ -49,7 +50,7 @@
    (10) and not cut short. A host that saves a trace lends so many bytes, and they are never too few (2). */
 #define HARTLEY_LONGEST_TRACE 65536
 /* The stack that a call takes at most, in bytes, with what the C library takes for it. */
-#define HARTLEY_STACK_BYTES 32768
+#define HARTLEY_STACK_BYTES 40960
 
 #ifdef __cplusplus
 extern "C" {
