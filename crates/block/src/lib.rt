@@ -1,4 +1,6 @@
 // The tests of what is lent to a call on a block (document 01, Refused input: 1, 2, 3, 4 in turn), and the answer of such a call.
+#![tactic(auto)]
+
 ghost use Rattle.std.specs.Prelude.{◌≡◌};
 ghost use Rattle.block.specs.Tests.{first_loud, loud, misfit, tested, tested_line, tested_samples, tested_spectrum};
 ghost use Rattle.block.specs.TestTable.{line_numbers, samples_numbers, spectrum_numbers};
@@ -17,14 +19,14 @@ pub const LARGEST_SAMPLE: i64 = 32767;
 const LOUDEST_LINE: i64 = 268435456;
 
 // What a call on a block answers.
-#[derive(Drop)]
+#[derive(Clone, Copy)]
 pub enum Answer {
     Done,
     Refused(Refusal),
 }
 
 // What the tests say of what is lent: the kind of a block that is taken, or the first fault.
-#[derive(Drop)]
+#[derive(Clone, Copy)]
 pub enum BlockVerdict {
     Taken(BlockKind),
     Refused(Refusal),

@@ -1,5 +1,7 @@
 // The bound of a block whose cells are bytes, for hosts in C (document 02, Item 6). It makes the steps of `distance` and rests on its laws; the bytes of a
 // cell are read where they stand, so nothing is copied.
+#![tactic(auto)]
+
 ghost use Rattle.std.specs.Prelude.{◌≡◌, length};
 ghost use Rattle.cell_bytes.specs.CellBytes.{cells_in};
 ghost use Rattle.distance.specs.BoundAnswers.{bound_answer};

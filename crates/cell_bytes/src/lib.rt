@@ -1,4 +1,6 @@
 // Cells as bytes, for hosts in C: eight bytes each, two's complement, least byte first (document 01, Parts of the engine).
+#![tactic(auto)]
+
 ghost use Rattle.std.specs.Prelude.{◌≡◌, ◌+◌, ◌*◌, ◌≤◌, length};
 ghost use Rattle.ints.specs.Written.{Put};
 ghost use Rattle.little_endian.specs.Reading.{signeds};

@@ -1,4 +1,6 @@
 // The plain cyclic sums of a short block and its weights (document 02, Item 7), for which the way by spectra would take longer.
+#![tactic(auto)]
+
 ghost use Rattle.std.specs.Prelude.{◌≡◌, ◌*◌, ◌≤◌, length};
 ghost use Rattle.exact.specs.Smoothing.{cyclic_sums};
 ghost use Rattle.cyclic_sums.specs.Short.{SHORT, Short, Sliding, dot_product, slid_sums, turned_back};

@@ -1,4 +1,6 @@
 // How far a line of a forward spectrum can lie from the direct sum, by the loudest sample of the block (document 02, Item 6).
+#![tactic(auto)]
+
 ghost use Rattle.std.specs.Prelude.{◌≡◌, ◌+◌, ◌*◌, max, nat_abs};
 ghost use Rattle.spectrum.specs.Distance.{bound, ceiling};
 ghost use Rattle.distance.specs.BoundAnswers.{bound_answer, bound_answer_numbers, bound_numbers};
@@ -9,14 +11,14 @@ use kind::{BlockKind, KindFound};
 use refusal::Refusal;
 
 // What is answered of a block: its bound, or why it has none.
-#[derive(Drop)]
+#[derive(Clone, Copy)]
 pub enum BoundAnswer {
     Bound(u64),
     Refused(Refusal),
 }
 
 // What was heard of a block: how many samples come before the first loud one, and the largest magnitude among them.
-#[derive(Drop)]
+#[derive(Clone, Copy)]
 pub struct Heard {
     pub samples: usize,
     pub largest: u64,

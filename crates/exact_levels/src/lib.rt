@@ -1,5 +1,7 @@
 // The exact spectrum of a block in its own cells (document 02, Item 7): permuted, then joined level by level, by the chosen pair's cosines over a quarter of
 // the turn, which are lent: 2^t + 1 of them, equally apart, for 4 × 2^t cells. A level doubles the limit on all cells, so that none is ever above 2^44.
+#![tactic(auto)]
+
 ghost use Rattle.std.specs.Prelude.{◌≡◌, List, ◌*◌, ◌^◌, ℤ, length};
 ghost use Rattle.ints.specs.Cells.{cell};
 ghost use Rattle.exact_pair.specs.Pair.{FIRST, Stands};

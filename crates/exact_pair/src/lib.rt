@@ -1,5 +1,7 @@
 // Two neighbouring halves of an exact spectrum joined in their own cells (document 02, Item 7): four lines at a time, from the same four cells, by the
 // cosines of the pair in force, `CHOSEN`, over a quarter of the turn. A cell holds any number with the right residue, and is folded before it is multiplied.
+#![tactic(auto)]
+
 ghost use Rattle.std.specs.Prelude.{◌≡◌, ◌*◌, ◌/◌, length};
 ghost use Rattle.ints.specs.Cells.{cell};
 ghost use Rattle.residues.specs.Folded.{folded};

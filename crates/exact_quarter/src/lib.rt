@@ -1,4 +1,6 @@
 // The chosen pair's cosines over a quarter of the turn (document 02, Item 7), computed from the pair, step by step.
+#![tactic(auto)]
+
 ghost use Rattle.std.specs.Prelude.{◌≡◌, ℕ, ◌+◌, ◌-◌, ◌^◌, ◌≤◌, ◌+ℤ◌, ◌-ℤ◌, ◌*ℤ◌, length};
 ghost use Rattle.exact_pair.specs.Pair.{cosine_step, quarter_of, sine_step};
 ghost use Rattle.residues.specs.Residue.{centred, residue};
@@ -10,7 +12,7 @@ const COSINE: i64 = 28670693;
 const SINE: i64 = 368578328;
 
 // Cosine and sine of an angle, each between −(2^30 − 1) and 2^30 − 1.
-#[derive(Drop)]
+#[derive(Clone, Copy)]
 pub struct Angle {
     pub cosine: i64,
     pub sine: i64,

@@ -1,4 +1,6 @@
 // The Fourier parts, the power and the scaled lines of a lent Hartley spectrum (document 01, Levels).
+#![tactic(auto)]
+
 ghost use Rattle.std.specs.Prelude.{◌≡◌, ℕ, ◌+◌, ◌/◌, ◌^◌, ◌≤◌, ◌<◌, nat_abs, pos, length};
 ghost use Rattle.kind.specs.Loudness.{LOUDEST_LINE};
 ghost use Rattle.block.specs.Tests.{tested_line};
@@ -13,21 +15,21 @@ use kind::Line;
 use refusal::Refusal;
 
 // The two doubled parts of a line.
-#[derive(Drop)]
+#[derive(Clone, Copy)]
 pub enum Doubled {
     Real,
     Imaginary,
 }
 
 // The real and the imaginary part of a scaled line.
-#[derive(Drop)]
+#[derive(Clone, Copy)]
 pub struct Pair {
     pub real: f64,
     pub imaginary: f64,
 }
 
 // A scaled line: the mean for line 0, the last line for line N/2, a pair for every other line; or why there is none.
-#[derive(Drop)]
+#[derive(Clone, Copy)]
 pub enum ScaledLine {
     Mean(f64),
     Last(f64),

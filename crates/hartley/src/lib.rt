@@ -1,4 +1,6 @@
 // The engine: the forward and the backward spectrum of a block, in its own cells (document 01, Levels).
+#![tactic(auto)]
+
 ghost use Rattle.std.specs.Prelude.{◌≡◌, [], map, ◌^◌, ◌≤◌};
 ghost use Rattle.ints.specs.Quotient.{rounded};
 ghost use Rattle.kind.specs.BlockKinds.{SCALE_DIGITS};

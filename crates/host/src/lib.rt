@@ -1,5 +1,7 @@
 // Entries for hosts in C: the engine and its table, the trace reader and saving on byte slices, each with one plain number for an answer (document 01, Parts
 // of the engine).
+#![tactic(auto)]
+
 ghost use Rattle.std.specs.Prelude.{◌≡◌, [], ◌*◌, ◌/◌, ◌%◌, ◌^◌, ◌<◌, length};
 ghost use Rattle.cell_bytes.specs.CellBytes.{cells_in};
 ghost use Rattle.block.specs.Tests.{tested_line, tested_samples, tested_spectrum};

@@ -1,4 +1,6 @@
 // Whole numbers: the laws that later proofs cite (proofs/), the rounded quotient and the absolute value.
+#![tactic(auto)]
+
 ghost use Rattle.std.specs.Prelude.{◌≡◌, ◌^◌, ◌≤◌, nat_abs};
 ghost use Rattle.ints.specs.Quotient.{Halved, rounded};
 

@@ -1,23 +1,25 @@
 // The block's kind with its named constants, and the two counts that must not be mixed up: moments and lines.
+#![tactic(auto)]
+
 ghost use Rattle.std.specs.Prelude.{◌≡◌};
 ghost use Rattle.kind.specs.BlockKinds.{kind_numbers, kind_of, length_numbers};
 
 // A moment of a block, counted from 0 (document 01's t, the source's tau).
-#[derive(Drop)]
+#[derive(Clone, Copy)]
 pub struct Moment(pub usize);
 
 // A line of a spectrum, counted from 0 (document 01's v, the source's nu).
-#[derive(Drop)]
+#[derive(Clone, Copy)]
 pub struct Line(pub usize);
 
 // A block's kind: a block has 2^p cells (document 01's P). `of_len` gives p from 1 to 10; a call that is handed a kind tests it.
-#[derive(Drop)]
+#[derive(Clone, Copy)]
 pub struct BlockKind {
     pub p: usize,
 }
 
 // The kind of a block, or that no block has this length.
-#[derive(Drop)]
+#[derive(Clone, Copy)]
 pub enum KindFound {
     Found(BlockKind),
     None,

@@ -1,4 +1,6 @@
 // Cells that are lent as bytes (document 01, Parts of the engine): what is written back, and why tests of the cells that are read suffice (proofs/).
+#![tactic(auto)]
+
 ghost use Rattle.std.specs.Prelude.{◌≡◌};
 ghost use Rattle.lent_cells.specs.BytesLeft.{written_back};
 

@@ -1,5 +1,7 @@
 // The levels of a block in its own cells (document 01, Levels 2), at a scale 2^digits, of which half is lent too. The quarter's cosines are lent: 2^t + 1
 // of them, equally apart, so that a level over halves of n cells takes each (2^t × 2 / n)th.
+#![tactic(auto)]
+
 ghost use Rattle.std.specs.Prelude.{◌≡◌, List, ℕ, ◌^◌, ◌≤◌, ℤ, length};
 ghost use Rattle.spectrum.specs.Spectrum.{level_at, levels_at};
 ghost use Rattle.levels.specs.Ready.{LARGEST_FIRST, LaterReady, LevelReady, NoneAbove, Ready};

@@ -1,4 +1,6 @@
 // The listing program (document 01): lists the trace on standard input.
+#![tactic(auto)]
+
 ghost use Rattle.std.specs.Prelude.{◌≡◌, ◌+◌, length};
 ghost use Rattle.trace.specs.Contents.{LONGEST};
 ghost use Rattle.listing.specs.Listing.{ROOM};
@@ -7,7 +9,7 @@ ghost use Rattle.list.specs.Input.{Fits};
 use libc::{STDERR_FILENO, STDIN_FILENO, STDOUT_FILENO};
 
 // What was read from standard input: so many bytes, or a read failed.
-#[derive(Drop)]
+#[derive(Clone, Copy)]
 enum Input {
     Read(usize),
     Failed,

@@ -1,4 +1,6 @@
 // Answers as plain numbers, for hosts in C (document 01, Parts of the engine).
+#![tactic(auto)]
+
 ghost use Rattle.std.specs.Prelude.{◌≡◌};
 ghost use Rattle.trace.specs.declared.TraceAnswer.TheVariants.{Accepted};
 ghost use Rattle.packing.specs.Packing.{packed, packed_bound, packed_refusal, packed_save, packed_scaled, packed_search, packed_trace};

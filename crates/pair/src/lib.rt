@@ -1,5 +1,7 @@
 // One pair of neighbouring halves joined in its own cells (document 01, Levels 2): four lines at a time, from the same four cells, by the quarter's
 // cosines alone, at a scale 2^digits.
+#![tactic(auto)]
+
 ghost use Rattle.std.specs.Prelude.{◌≡◌, ◌+◌, ◌*◌, ◌-◌, ◌/◌, ◌≤◌, ◌<◌, pos, nat_abs, ◌+ℤ◌, ◌*ℤ◌, length};
 ghost use Rattle.ints.specs.Cells.{cell};
 ghost use Rattle.spectrum.specs.Limits.{LARGEST_PRODUCT, LARGEST_SUM};

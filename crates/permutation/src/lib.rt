@@ -1,4 +1,6 @@
 // The permutation of a block in its own cells, by exchanges (document 01, Levels 1).
+#![tactic(auto)]
+
 ghost use Rattle.std.specs.Prelude.{◌≡◌, ℕ, ◌+◌, ◌*◌, ◌/◌, ◌^◌, ◌≤◌, ◌<◌, length};
 ghost use Rattle.spectrum.specs.Levels.{permuted, reversed};
 ghost use Rattle.permutation.specs.Inner.{exchanged, four_exchanged};

@@ -1,6 +1,8 @@
 // What the programs of worked samples print, on standard output: texts, numbers, cells and refusals. Every number stands after a space.
 //
 // No contract can speak of what is written, so these functions promise nothing, and they ask nothing. What a program prints is held to its file stdout.
+#![tactic(auto)]
+
 use libc::STDOUT_FILENO;
 use refusal::Refusal;
 

@@ -1,4 +1,6 @@
 // The engine's quarter table, and the cosine and sine of any step of a turn by a quarter's cosines.
+#![tactic(auto)]
+
 mod coarse;
 mod table;
 

@@ -1,4 +1,6 @@
 // Refusals with their numbers and places.
+#![tactic(auto)]
+
 ghost use Rattle.std.specs.Prelude.{◌≡◌};
 ghost use Rattle.refusal.specs.RefusalTable.{number, place};
 
@@ -6,7 +8,7 @@ use kind::Line;
 
 // Why an input is refused: the rows of document 01, Refused input, in its order and by its words, those of document 02, Item 3, which stand in place of
 // its 13, and that of Item 7. A refusal holds its place, a cell, a line, a byte of the trace, the number of a block or a weight, unless the papers' place is 0.
-#[derive(Drop)]
+#[derive(Clone, Copy)]
 pub enum Refusal {
     Length,
     Misfit,

@@ -1,4 +1,6 @@
 // Whole numbers modulo 2^31 − 1 (document 02, Item 7). A cell may be any number with the right residue, so that most steps need no exact residue.
+#![tactic(auto)]
+
 ghost use Rattle.std.specs.Prelude.{◌≡◌};
 ghost use Rattle.residues.specs.Residue.{centred, residue};
 ghost use Rattle.residues.specs.Folded.{folded};

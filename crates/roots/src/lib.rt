@@ -1,4 +1,6 @@
 // The whole square root, of a number of 64 bits and of one of 122.
+#![tactic(auto)]
+
 ghost use Rattle.std.specs.Prelude.{◌≡◌, ◌+◌, ◌*◌, ◌^◌, ◌≤◌, ◌<◌};
 ghost use Rattle.cosine.specs.Root.{root};
 

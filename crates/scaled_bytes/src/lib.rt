@@ -1,4 +1,6 @@
 // A scaled line of a spectrum whose cells are bytes, for hosts in C, with one plain number for an answer (document 01, Parts of the engine).
+#![tactic(auto)]
+
 ghost use Rattle.std.specs.Prelude.{◌≡◌, ◌*◌, length};
 ghost use Rattle.kind.specs.BlockKinds.{LARGEST};
 ghost use Rattle.cell_bytes.specs.CellBytes.{CELL, cell_count, cells_in};

@@ -1,5 +1,7 @@
 // The search over a list of doubled powers, those of lines 0 to N/2 (document 02, Item 2): the strongest line of a band, and the line nearest to a chosen
 // one whose power reaches a level.
+#![tactic(auto)]
+
 ghost use Rattle.std.specs.Prelude.{◌≡◌, ◌+◌, ◌^◌, ◌≤◌, ◌<◌, length, ◌≤ℤ◌};
 ghost use Rattle.ints.specs.Cells.{cell};
 ghost use Rattle.search.specs.Search.{Strongest, nearest, reaches};
@@ -11,7 +13,7 @@ use kind::{BlockKind, KindFound, Line};
 use refusal::Refusal;
 
 // What a search answers: the line that it has found, that there is none, or why it was not made. There is always a strongest line.
-#[derive(Drop)]
+#[derive(Clone, Copy)]
 pub enum SearchAnswer {
     Found(Line),
     None,
@@ -19,14 +21,14 @@ pub enum SearchAnswer {
 }
 
 // What the checks say of what is lent to a search.
-#[derive(Drop)]
+#[derive(Clone, Copy)]
 pub enum SearchVerdict {
     Taken,
     Refused(Refusal),
 }
 
 // The strongest line so far, with its power.
-#[derive(Drop)]
+#[derive(Clone, Copy)]
 pub struct Peak {
     pub line: usize,
     pub power: i64,

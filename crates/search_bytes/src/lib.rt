@@ -1,5 +1,7 @@
 // The search over a list of powers whose cells are bytes, for hosts in C (document 02, Item 2). It makes the steps of `search` and rests on its laws; the
 // bytes of a line are read where they stand, and only those of the lines that are looked at, so nothing is copied.
+#![tactic(auto)]
+
 ghost use Rattle.std.specs.Prelude.{◌≡◌, ◌+◌, ◌≤◌, ◌<◌, length};
 ghost use Rattle.ints.specs.Cells.{cell};
 ghost use Rattle.cell_bytes.specs.CellBytes.{cells_in};

@@ -1,4 +1,6 @@
 // Smoothing of a block whose cells are bytes by weights whose cells are bytes, for hosts in C (document 02, Item 7).
+#![tactic(auto)]
+
 ghost use Rattle.std.specs.Prelude.{◌≡◌, ◌*◌, length};
 ghost use Rattle.kind.specs.BlockKinds.{LARGEST};
 ghost use Rattle.cell_bytes.specs.CellBytes.{CELL, cell_count, fit_count};

@@ -1,4 +1,6 @@
 // The tests of what is lent to smoothing (document 02, Item 7): 1, 2, 3 and 20 in turn.
+#![tactic(auto)]
+
 ghost use Rattle.std.specs.Prelude.{◌≡◌};
 ghost use Rattle.block.specs.BlockAnswers.{block_numbers};
 ghost use Rattle.smooth_tests.specs.Tests.{first_heavy, smoothing_numbers, tested_smoothing};

@@ -1,4 +1,6 @@
 // Exact smoothing of a block by weights, in its own cells (document 02, Item 7).
+#![tactic(auto)]
+
 ghost use Rattle.std.specs.Prelude.{◌≡◌, map, ℕ, ◌+◌, ◌*◌, ◌/◌, ◌≤◌, length};
 ghost use Rattle.ints.specs.Cells.{cell};
 ghost use Rattle.block.specs.BlockAnswers.{answer_numbers, block_answer, verdict_numbers};

@@ -5,7 +5,7 @@
 use mathlib.Core.Path.{◌≡◌, sym, ◌∙◌, ap, ap₂}
 use mathlib.Core.List.{List, [], ◌∷◌}
 use Prim.Native.Nat.{ℕ, zero, suc, ◌+◌, ◌*◌, ◌-◌, ◌/◌, ◌%◌, ◌^◌, ◌≤◌, ◌<◌}
-use native.Mathlib.Nat.{sub_zero, mod-lt, mod-eq_of_lt, mod_self, div-add-mod', mul-le-mul}
+use native.Mathlib.Nat.{sub-zero, mod-lt, mod-eq_of_lt, mod_self, div-add-mod', mul-le-mul}
 use native.Mathlib.Omega.{arith}
 use lib.IntN.{ℤ, pos, nat_abs, ◌+ℤ◌, ◌-ℤ◌, ◌*ℤ◌}
 use lib.ListN.{length}
@@ -72,7 +72,7 @@ pub with_mirror : (n v : ℕ) → zero < n → (m : ℕ) × (mirror n v + v ≡ 
 with_mirror n v z = go (v % n) (div-add-mod' v n) (mod-lt v z)
   where
     go : (w : ℕ) → v / n * n + w ≡ v → w < n → (m : ℕ) × ((n - w) % n + v ≡ m * n)
-    go zero f h = (v / n, ap (λ (x : ℕ). x % n + v) (sub_zero n) ∙ ap (λ (x : ℕ). x + v) (mod_self n) ∙ omega arith)
+    go zero f h = (v / n, ap (λ (x : ℕ). x % n + v) (sub-zero n) ∙ ap (λ (x : ℕ). x + v) (mod_self n) ∙ omega arith)
     go (suc w) f h = (v / n + 1, ap (λ (x : ℕ). x + v) (mod-eq_of_lt less) ∙ omega arith)
       where
         less : n - suc w < n

@@ -1,4 +1,6 @@
 // The table program (document 02, Item 8): prints the quarter table, T(0) to T(256), one number a line.
+#![tactic(auto)]
+
 ghost use Rattle.std.specs.Prelude.{◌≡◌, length};
 ghost use Rattle.table_text.specs.TableText.{ROOM};
 

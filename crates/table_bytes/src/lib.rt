@@ -1,4 +1,6 @@
 // The quarter table in cells that are bytes, for hosts in C (document 02, Item 8; document 01, Parts of the engine).
+#![tactic(auto)]
+
 ghost use Rattle.std.specs.Prelude.{◌≡◌, ◌+◌, ◌*◌, ◌≤◌, pos, length};
 ghost use Rattle.ints.specs.Written.{Put};
 ghost use Rattle.little_endian.specs.Spelling.{spelled_signed, spelled_signeds};

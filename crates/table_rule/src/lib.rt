@@ -1,5 +1,7 @@
 // The quarter table from its rule (document 02, Item 8): inside a quarter the cosine is had from the whole turn's cosine at twice the angle, and the whole
 // turn's cosine is folded back to a quarter's. No number of the table stands here.
+#![tactic(auto)]
+
 ghost use Rattle.std.specs.Prelude.{◌≡◌, ◌+◌, ◌-◌, ◌/◌, ◌≤◌, ◌^◌, nat_abs, pos, neg_ℤ, length};
 ghost use Rattle.ints.specs.Tabulate.{tabulate};
 ghost use Rattle.kind.specs.BlockKinds.{SCALE_DIGITS};

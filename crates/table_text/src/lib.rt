@@ -1,4 +1,6 @@
 // The quarter table as text in lent bytes, one number a line (document 02, Item 8).
+#![tactic(auto)]
+
 ghost use Rattle.std.specs.Prelude.{[], ◌∷◌, ◌≡◌, ◌+◌, ◌*◌, ◌≤◌, length};
 ghost use Rattle.ints.specs.Written.{Put, written};
 ghost use Rattle.kind.specs.BlockKinds.{SCALE_DIGITS};

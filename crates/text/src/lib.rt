@@ -1,4 +1,6 @@
 // Numbers as text (document 01, Listing program), each with the byte that comes after it in a line, straight into lent bytes.
+#![tactic(auto)]
+
 ghost use Rattle.std.specs.Prelude.{◌≡◌, true, ◌+◌, ◌%◌, ◌≤◌, ◌<◌, length};
 ghost use Rattle.ints.specs.Written.{written};
 ghost use Rattle.text.specs.Decimals.{PutField, decimal, digit, signed_decimal};

@@ -1,4 +1,6 @@
 // Document 01, Samples worked by hand: those of blocks, run. What is printed is held to the file stdout, which was worked by hand from the document.
+#![tactic(auto)]
+
 ghost use Rattle.std.specs.Prelude.{◌≡◌, ◌^◌, ◌≤◌, length, unsigned_abs};
 
 use block::{Answer, BlockVerdict};

@@ -1,4 +1,6 @@
 // Document 02, Item 6: bounds worked by hand, run. What is printed is held to the file stdout, which was worked by hand from the document.
+#![tactic(auto)]
+
 ghost use Rattle.std.specs.Prelude.{◌≡◌, length};
 
 use distance::BoundAnswer;

@@ -1,4 +1,6 @@
 // Whole square roots (document 01, Cosines), run. What is printed is held to the file stdout, which was worked by hand.
+#![tactic(auto)]
+
 use printing::{print_line_end, print_text, print_unsigned};
 
 fn main() {

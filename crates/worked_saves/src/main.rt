@@ -1,6 +1,8 @@
 // Saved traces worked by hand from document 02, Item 4, and run. What is printed is held to the file stdout.
 // Each save is a line: what is asked, how many bytes are used or why it is refused, and how many of the other lent
 // bytes are kept. A trace that is saved follows in hex, as in the documents, and is read back by check and fetch.
+#![tactic(auto)]
+
 ghost use Rattle.std.specs.Prelude.{◌≡◌, ◌≤◌, ◌<◌, length};
 
 use printing::{print_cells, print_line_end, print_refusal, print_text, print_unsigned};

@@ -1,4 +1,6 @@
 // Searches over powers worked by hand from document 02, Item 2, and run. What is printed is held to the file stdout.
+#![tactic(auto)]
+
 use kind::Line;
 use printing::{
     print_cells, print_line_end, print_refusal, print_signed, print_text, print_unsigned,

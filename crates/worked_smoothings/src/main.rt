@@ -1,4 +1,6 @@
 // Document 02, Item 7: smoothings worked by hand, run. What is printed is held to the file stdout, which was worked by hand from the document.
+#![tactic(auto)]
+
 use block::Answer;
 use printing::{
     print_cells, print_line_end, print_refusal, print_signed, print_text, print_unsigned,

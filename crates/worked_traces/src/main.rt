@@ -1,5 +1,7 @@
 // Document 01, Samples worked by hand: those of traces, run. What is printed is held to the file stdout, which was worked by hand from the document.
 // A worked trace is written as its name, a colon and its bytes; these are in hex as in the document, \0 being 00.
+#![tactic(auto)]
+
 ghost use Rattle.std.specs.Prelude.{◌≡◌, ◌+◌, ◌*◌, ◌≤◌, length};
 
 use printing::{print_cells, print_line_end, print_refusal, print_text, print_unsigned};
@@ -13,7 +15,7 @@ const HEAD: [u8; 12] = *b"\x06\0\0\0\x01\0\x40\x1F\0\0\x02\0";
 const END: [u8; 6] = *b"\0\0\0\0\x04\0";
 
 // Where the name of a worked trace ends, and where its bytes start.
-#[derive(Drop)]
+#[derive(Clone, Copy)]
 struct Split {
     end: usize,
     start: usize,

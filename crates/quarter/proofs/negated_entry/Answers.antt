@@ -1,0 +1,16 @@
+-- `negated_entry` is right because 32 bits, negated, fit in 63.
+use borrow.Author.Rules.{rules}
+use Prim.Native.Nat.{◌<◌, ◌^◌}
+use native.Mathlib.Omega.{arith}
+use Rattle.ints.proofs.Fit.{minus_fits, reads_minus, reads_natural}
+use Rattle.quarter.proofs.negated_entry.Goals as goal
+
+pub overflow_sub-result : goal.overflow_sub-result
+overflow_sub-result c =
+    let small : c.args.entry < 2 ^ 63 = omega (arith, c.ranges.entry) in
+    rw (reads_natural _ small) (minus_fits _ small)
+
+pub returns : goal.returns
+returns c =
+    let small : c.args.entry < 2 ^ 63 = omega (arith, c.ranges.entry) in
+    rw (reads_natural _ small) (reads_minus _ small)

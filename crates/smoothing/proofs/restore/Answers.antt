@@ -1,0 +1,36 @@
+-- `restore` is right because each round restores a cell that no round before has written.
+use borrow.Author.Rules.{rules, sfits_of}
+use mathlib.Core.Path.{◌≡◌, ◌∙◌}
+use Prim.Native.Nat.{◌*◌, ◌-◌}
+use native.Mathlib.Omega.{arith}
+use lib.ListN.{length}
+use mir.Facts.{to_z-of_z}
+use mir.Syntax.{w64}
+use mir.Val.{to_z, of_z}
+use Rattle.ints.specs.Cells.{cell}
+use Rattle.ints.proofs.Fit.{reads_back}
+use Rattle.exact_pair.specs.Pair.{FIRST}
+use Rattle.smoothing.specs.Inner.{LineRoom}
+use Rattle.smoothing.proofs.Restoring.{Restoring, none_restored, next_restored, all_restored}
+use Rattle.smoothing.proofs.restore.Goals as goal
+
+pub loop-t-init : goal.loop-t-init
+loop-t-init c = none_restored c.args.p c.args.cells.now
+
+pub restored-requires : goal.restored-requires
+restored-requires c =
+    let room : let l = c.loop-t in LineRoom (cell l.cells l.t) = let l = c.loop-t in rw (l.invariant.left l.t (omega arith)) (c.requires.2 l.t) in
+    let back : let l = c.loop-t in to_z w64 (of_z w64 (cell l.cells l.t)) ≡ cell l.cells l.t = let l = c.loop-t in reads_back (cell l.cells l.t) (2 * (1024 * FIRST)) (omega arith) room in
+    (c.requires.0, c.requires.1, rw back room)
+
+pub loop-t-smaller : goal.loop-t-smaller
+loop-t-smaller c = omega (arith, c.loop-t-test.true, c.loop-t.invariant.long)
+
+pub loop-t-preserved : goal.loop-t-preserved
+loop-t-preserved c =
+    let room : let l = c.loop-t in LineRoom (cell l.cells l.t) = let l = c.loop-t in rw (l.invariant.left l.t (omega arith)) (c.requires.2 l.t) in
+    let back : let l = c.loop-t in to_z w64 (of_z w64 (cell l.cells l.t)) ≡ cell l.cells l.t = let l = c.loop-t in reads_back (cell l.cells l.t) (2 * (1024 * FIRST)) (omega arith) room in
+    next_restored c.loop-t.invariant c.loop-t-test.true _ (to_z-of_z {w = w64} (sfits_of c.restored.type_inv) ∙ (rw back at c.restored.ensures))
+
+pub returns : goal.returns
+returns c = all_restored c.loop-t.invariant c.loop-t-test.false
