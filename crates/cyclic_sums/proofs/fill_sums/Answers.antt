@@ -18,10 +18,10 @@ module _ {xs ws ts : List ℤ} (s : Short xs ws) (e : ts ≡ turned_back ws) whe
   sums-are k = k ∙ ap (slid_sums xs) e ∙ slid_cyclic xs ws s.as_long
 
 pub turn_back-requires : goal.turn_back-requires
-turn_back-requires c = let p = c.requires in p.1.0 ∙ ap (λ (n : ℕ). 2 * n) (sym p.0.1.as_long)
+turn_back-requires c = let p = c.requires in p.turned_len.0 ∙ ap (λ (n : ℕ). 2 * n) (sym p.samples_len_bound.1.as_long)
 
 pub slide-requires : goal.slide-requires
-slide-requires c = let p = c.requires in (p.0.0, sliding p.0.1 c.turn_back.ensures, p.1.1)
+slide-requires c = let p = c.requires in (p.samples_len_bound.0, sliding p.samples_len_bound.1 c.turn_back.ensures, p.turned_len.1)
 
 pub returns : goal.returns
 returns c = sums-are c.requires.samples_len_bound.1 c.turn_back.ensures c.slide.ensures

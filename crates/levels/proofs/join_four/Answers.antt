@@ -19,24 +19,20 @@ use Rattle.levels.proofs.TwoBlocks.{first-long, first_small, second-long, second
 use Rattle.levels.proofs.join_four.Lts as lts
 use Rattle.levels.proofs.join_four.Goals as goal
 
--- ---- where the calls stand: after level 1 of the first two, of the second two, and after the first plain step
-
--- the cells after level 1, at every scale
-module _ (c : lts.After-join_two-2) where
-  abbrev xs : List ℤ
-  xs = (start (before c)).args.cells.now
-
+-- us and vs are the two twos after level 1, at every scale: so ys is the four after it
+module _ (xs : List ℤ) (long : length xs ≡ 4) (first : (i : ℕ) → nat_abs (cell xs i) ≤ LARGEST_FIRST) (us vs : List ℤ)
+  (one : (s : ℕ) → 4 ≤ s → s ≤ 22 → us ≡ levels_at s 1 (take 2 xs)) (two : (s : ℕ) → 4 ≤ s → s ≤ 22 → vs ≡ levels_at s 1 (take 2 (drop 2 (put_mid 0 2 xs us)))) where
   abbrev ys : List ℤ
-  ys = put_mid 2 2 (put_mid 0 2 xs (before c).join-two.new.0) c.join_two-2.new.cells
+  ys = put_mid 2 2 (put_mid 0 2 xs us) vs
 
-  level-one-is : (s : ℕ) → 4 ≤ s → s ≤ 22 → ys ≡ levels_at s 1 xs
-  level-one-is s least most = two-done s 1 xs (start (before c)).requires.0 _ ((before c).join-two.ensures s least most) _ (c.join_two-2.ensures s least most)
+  level-one_is : (s : ℕ) → 4 ≤ s → s ≤ 22 → ys ≡ levels_at s 1 xs
+  level-one_is s least most = two-done s 1 xs long us (one s least most) vs (two s least most)
 
   ys_long : length ys ≡ 4
-  ys_long = both_long 4 1 xs (start (before c)).requires.0 _ ((before c).join-two.ensures 4 (omega arith) (omega arith)) _ (c.join_two-2.ensures 4 (omega arith) (omega arith))
+  ys_long = both_long 4 1 xs long us (one 4 (omega arith) (omega arith)) vs (two 4 (omega arith) (omega arith))
 
-  ys-small : (i : ℕ) → nat_abs (cell ys i) ≤ LARGEST_PRODUCT
-  ys-small i = rw (level-one-is 4 (omega arith) (omega arith)) (omega (arith, first-level-small 4 (omega arith) (omega arith) LARGEST_FIRST xs (rw (start (before c)).requires.0 (omega arith)) (start (before c)).requires.1 i))
+  ys_small : (i : ℕ) → nat_abs (cell ys i) ≤ LARGEST_PRODUCT
+  ys_small i = rw (level-one_is 4 (omega arith) (omega arith)) (omega (arith, first-level-small 4 (omega arith) (omega arith) LARGEST_FIRST xs (rw long (omega arith)) first i))
 
 -- the first plain step leaves the other two cells
 kept : (xs ys : List ℤ) → ys ≡ split xs 2 0 (cell xs 2) → (i : ℕ) → (i ≡ 0 → ⊥) → (i ≡ 2 → ⊥) → nat_abs (cell xs i) ≤ LARGEST_PRODUCT → nat_abs (cell ys i) ≤ LARGEST_PRODUCT
