@@ -1,13 +1,11 @@
 -- `first_loud` is right because it looks at the cells in turn, and none before cell i is loud.
-use borrow.Author.Rules.{rules, sfits_of}
+use borrow.Author.Rules.{sfits_of}
 use mathlib.Core.Path.{◌≡◌}
-use Prim.Native.Nat.{◌-◌}
 use native.Mathlib.Omega.{arith}
-use lib.ListN.{length}
 use mir.Facts.{to_z-of_z}
 use mir.Syntax.{w64}
 use mir.Val.{to_z, of_z}
-use Rattle.block.proofs.Looking.{Looked, looked_none, looked-loud, looked-quiet, looked_all}
+use Rattle.block.proofs.Looking.{looked_none, looked-loud, looked-quiet, looked_all}
 use Rattle.block.proofs.first_loud.Goals as goal
 
 pub loop-i-init : goal.loop-i-init

@@ -1,5 +1,4 @@
 -- `tested_line` is right because it asks for the spectrum's tests first, and then compares the line with N/2.
-use borrow.Author.Rules.{rules}
 use borrow.Author.Tests.{lt-ltb, le-ltb}
 use mathlib.Core.Path.{◌≡◌, sym, ◌∙◌, ap}
 use mathlib.Core.Bool.{Bool, true, false}

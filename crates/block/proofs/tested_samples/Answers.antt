@@ -1,5 +1,4 @@
 -- `tested_samples` is right because it hands on the limits -32,768 and 32,767, and no outputs.
-use borrow.Author.Rules.{rules}
 use Rattle.ints.proofs.Order.{equal}
 use Rattle.kind.specs.Loudness.{LEAST_SAMPLE, LARGEST_SAMPLE}
 use Rattle.block.proofs.Limits.{by_limits}

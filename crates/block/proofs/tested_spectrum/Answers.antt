@@ -1,5 +1,4 @@
 -- `tested_spectrum` is right because it hands on the limits ±2^28.
-use borrow.Author.Rules.{rules}
 use lib.IntN.{pos, neg_ℤ}
 use Rattle.ints.proofs.Order.{equal}
 use Rattle.kind.specs.Loudness.{LOUDEST_LINE}

@@ -1,5 +1,4 @@
 -- `decode` is right because the front of the bytes is as long as its cells take, and spells them as all the bytes do.
-use borrow.Author.Rules.{rules}
 use mathlib.Core.Path.{refl, sym, ◌∙◌}
 use native.Mathlib.Omega.{arith}
 use lib.Seq.{length-take-le}

@@ -1,13 +1,12 @@
 -- `encode` is right because each round puts the eight bytes of one cell more after those of the cells before it.
 use mir.Syntax.{w64}
-use borrow.Author.Rules.{rules, sfits_of}
+use borrow.Author.Rules.{sfits_of}
 use mathlib.Core.Path.{◌≡◌, sym, ◌∙◌, ap}
-use Prim.Native.Nat.{◌+◌, ◌-◌, ◌*◌}
+use Prim.Native.Nat.{◌+◌, ◌*◌}
 use native.Mathlib.Omega.{arith}
-use lib.ListN.{length}
 use mir.Facts.{to_z-of_z}
 use Rattle.little_endian.specs.Spelling.{spelled_signed}
-use Rattle.little_endian.proofs.Numbers.{NumbersPut, numbers_begun, numbers_room, numbers_next, numbers_over, one_spelled}
+use Rattle.little_endian.proofs.Numbers.{numbers_begun, numbers_room, numbers_next, numbers_over, one_spelled}
 use Rattle.cell_bytes.proofs.CellsRead.{encoded_all, encoded_none}
 use Rattle.cell_bytes.proofs.encode.Goals as goal
 

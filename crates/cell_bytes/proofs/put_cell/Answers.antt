@@ -1,5 +1,4 @@
 -- `put_cell` is right because the word that stands for a cell is spelled by the cell's bytes.
-use borrow.Author.Rules.{rules}
 use mathlib.Core.Path.{◌≡◌, ◌∙◌, ap}
 use mathlib.Core.List.{List}
 use Prim.Native.Nat.{ℕ, ◌^◌}
