@@ -1,5 +1,5 @@
 -- `centred` is right because a number that is folded twice lies between −3 and 2^31 + 2, so that one comparison tells for which number it stands.
-use borrow.Author.Rules.{rules, sfits_of}
+use borrow.Author.Rules.{sfits_of}
 use mathlib.Core.Path.{◌≡◌, sym, ◌∙◌, ap}
 use mathlib.Core.Bool.{true, false}
 use mathlib.Core.List.{[], ◌∷◌}
@@ -19,9 +19,6 @@ use Rattle.residues.specs.Folded.{folded}
 use Rattle.residues.proofs.Congruent.{◌≈◌, ◌⊙◌, ≈-is, ≈-sym}
 use Rattle.residues.proofs.Residues.{residue_≈, residue-lt, is-centred, shifted}
 use Rattle.residues.proofs.Folding.{Range, fits_small, folded_≈, twice-folded}
-use Rattle.residues.proofs.centred.Reads as reads
-use Rattle.residues.proofs.centred.Lts as lts
-use Rattle.residues.proofs.folded.Reads as folded-reads
 use Rattle.residues.proofs.centred.Goals as goal
 
 -- k less 3 stands for itself below 2^30, and else for itself less the modulus
