@@ -10,9 +10,9 @@ use mir.Syntax.{w64}
 use mir.Val.{to_z, of_z}
 use Rattle.ints.specs.Cells.{cell}
 use Rattle.pair.proofs.Splitting.{split-long}
-use Rattle.exact_pair.specs.Pair.{FIRST, PairReady, exact_line}
-use Rattle.exact_pair.proofs.Joining.{Joined, none_joined}
-use Rattle.exact_pair.proofs.Steps.{Stand, two_halves, middle, whole, entries-many, entry_in, cosine-back, sine-back, quad-ready, quad-step, start_small, middle-small, joined_keeps, pair-stands}
+use Rattle.exact_pair.specs.Pair.{PairReady}
+use Rattle.exact_pair.proofs.Joining.{none_joined}
+use Rattle.exact_pair.proofs.Steps.{two_halves, middle, whole, entries-many, entry_in, cosine-back, sine-back, quad-ready, quad-step, start_small, middle-small, pair-stands}
 use Rattle.exact_pair.proofs.join.Invariants.{Made}
 use Rattle.exact_pair.proofs.join.Goals as goal
 
@@ -119,11 +119,11 @@ loop-v-preserved c =
     let sine-read : let l = c.loop-v in let q = c.args.quarter.now in
     to_z w64 (of_z w64 (cell q (length q - 1 - l.entry))) ≡ cell q (length q - 1 - l.v * c.args.stride) = let l = c.loop-v in sine-back c.requires l.v l.invariant.0 here.below l.entry l.invariant.2 in
     let l = c.loop-v in (
-  omega arith,
-  omega (arith, here.below, two_halves c.requires),
-  next-entry l.v c.args.stride l.entry _ l.invariant.2 refl,
-  quad-step c.requires l.v l.invariant.0 here.below _ _ cosine-read sine-read l.cells l.invariant.3 _ c.join_quad.ensures,
-)
+      omega arith,
+      omega (arith, here.below, two_halves c.requires),
+      next-entry l.v c.args.stride l.entry _ l.invariant.2 refl,
+      quad-step c.requires l.v l.invariant.0 here.below _ _ cosine-read sine-read l.cells l.invariant.3 _ c.join_quad.ensures,
+    )
 
 pub join_plain-requires : goal.join_plain-requires
 join_plain-requires c = let l = c.loop-v in let D = past c.requires l.v l.invariant.1 (omega (arith, c.loop-v-test.false)) l.invariant.3 in
