@@ -1,11 +1,10 @@
 -- `fill` is right because before line v the lines below v stand, and mirror is the place of H(N − v).
 use borrow.Author.Rules.{sfits_of}
-use Prim.Native.Nat.{◌-◌, ◌<◌}
+use Prim.Native.Nat.{◌<◌}
 use native.Mathlib.Omega.{arith}
 use lib.ListN.{length}
-use Rattle.fourier.specs.Parts.{formula}
 use Rattle.fourier.proofs.Lines.{line_quiet}
-use Rattle.fourier.proofs.FillingLines.{LinesFilled, none_filled, line-in, mirror-within, next-filled, all_filled}
+use Rattle.fourier.proofs.FillingLines.{none_filled, line-in, mirror-within, next-filled, all_filled}
 use Rattle.fourier.proofs.fill.Goals as goal
 
 pub loop-v-init : goal.loop-v-init

@@ -1,15 +1,12 @@
 -- `fill_powers` is right because before line v the powers of the lines below v stand, and mirror is the place of H(N − v).
 use borrow.Author.Rules.{sfits_of}
 use mathlib.Core.Path.{◌∙◌}
-use Prim.Native.Nat.{◌+◌, ◌-◌, ◌<◌}
+use Prim.Native.Nat.{◌<◌}
 use native.Mathlib.Omega.{arith}
-use lib.IntN.{ℤ, pos}
 use lib.ListN.{length}
-use Rattle.fourier.specs.Parts.{square}
 use Rattle.fourier.proofs.Lines.{line_quiet}
 use Rattle.fourier.proofs.Powers.{powers_tabulated}
-use Rattle.fourier.proofs.FillingLines.{LinesFilled, none_filled, line-in, mirror-within, next-filled, all_filled}
-use Rattle.fourier.proofs.fill_powers.Invariants.{squares}
+use Rattle.fourier.proofs.FillingLines.{none_filled, line-in, mirror-within, next-filled, all_filled}
 use Rattle.fourier.proofs.fill_powers.Goals as goal
 
 pub loop-v-init : goal.loop-v-init

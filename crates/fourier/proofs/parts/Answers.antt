@@ -5,9 +5,10 @@ use mathlib.Core.Bool.{false}
 use mathlib.Core.List.{List, [], ◌∷◌}
 use Prim.Native.Nat.{ℕ, ◌+◌, ◌/◌}
 use native.Mathlib.Omega.{arith}
-use lib.IntN.{ℤ}
+use lib.IntN.{ℤ, pos, neg_ℤ}
 use lib.ListN.{length}
 use Rattle.kind.specs.declared.BlockKind.{BlockKind}
+use Rattle.kind.specs.Loudness.{LOUDEST_LINE}
 use Rattle.block.specs.declared.BlockVerdict.{BlockVerdict}
 use Rattle.block.specs.declared.BlockVerdict.TheVariants.{Taken}
 use Rattle.block.specs.Tests.{misfit, tested_spectrum}
@@ -39,7 +40,7 @@ module _ (xs real imaginary : List ℤ) (kind : BlockKind) (e : tested_parts xs 
 
   both-fit : (length real ≡ length xs / 2 + 1) × (misfit (length xs / 2 + 1) (length imaginary ∷ []) ≡ false)
   unfolding tested_parts
-  both-fit = output_fits (length xs / 2 + 1) (length real) (length imaginary ∷ []) (taken_fits _ _ (length real ∷ length imaginary ∷ []) xs kind e)
+  both-fit = output_fits (length xs / 2 + 1) (length real) (length imaginary ∷ []) (taken_fits (neg_ℤ (pos LOUDEST_LINE)) (pos LOUDEST_LINE) (length real ∷ length imaginary ∷ []) xs kind e)
 
   imaginary-fits : length imaginary ≡ length xs / 2 + 1
   imaginary-fits = (output_fits (length xs / 2 + 1) (length imaginary) [] both-fit.1).0
@@ -59,9 +60,11 @@ fill-requires-in-Taken c =
     ((_, accepted _ c.args.real.now c.args.imaginary.now _ e), imaginary-fits _ c.args.real.now c.args.imaginary.now _ e)
 
 pub returns-in-Refused : goal.returns-in-Refused
-returns-in-Refused c = let r = c.before in let e = r.tested_spectrum.ensures.answer in let r = promised _ _ _ _ _ (found _ _ _ e r.in-Refused.is (search rules) (search rules)) refl refl (search rules) (search rules) in record { answer = r.0; numbers = r.1.0; real = r.1.1.0; imaginary = r.1.1.1 }
+returns-in-Refused c =
+    let r = promised c.args.spectrum.now c.args.real.now c.args.imaginary.now _ _ (found c.args.spectrum.now c.args.real.now c.args.imaginary.now c.tested_spectrum.ensures.answer c.in-Refused.is (search rules) (search rules)) refl refl refl refl in
+    record { answer = r.0; numbers = r.1.0; real = r.1.1.0; imaginary = r.1.1.1 }
 
 pub returns-in-Taken : goal.returns-in-Taken
 returns-in-Taken c =
     let tests : BlockVerdict = tested_parts c.args.spectrum.now c.args.real.now c.args.imaginary.now in
-    let taken : tests ≡ Taken c.in-Taken.field-0 = found c.args.spectrum.now c.args.real.now c.args.imaginary.now c.tested_spectrum.ensures.answer c.in-Taken.is (omega arith) (omega arith) in let r = promised _ _ _ _ _ taken refl refl c.fill.ensures c.fill-in-Taken.ensures in record { answer = r.0; numbers = r.1.0; real = r.1.1.0; imaginary = r.1.1.1 }
+    let taken : tests ≡ Taken c.in-Taken.field-0 = found c.args.spectrum.now c.args.real.now c.args.imaginary.now c.tested_spectrum.ensures.answer c.in-Taken.is (omega arith) (omega arith) in let r = promised c.args.spectrum.now c.args.real.now c.args.imaginary.now _ _ taken refl refl c.fill.ensures c.fill-in-Taken.ensures in record { answer = r.0; numbers = r.1.0; real = r.1.1.0; imaginary = r.1.1.1 }

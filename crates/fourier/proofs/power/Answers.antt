@@ -4,9 +4,10 @@ use mathlib.Core.Path.{◌≡◌, refl, sym, ◌∙◌, ap}
 use mathlib.Core.List.{List, [], ◌∷◌}
 use Prim.Native.Nat.{ℕ, ◌+◌, ◌/◌}
 use native.Mathlib.Omega.{arith}
-use lib.IntN.{ℤ}
+use lib.IntN.{ℤ, pos, neg_ℤ}
 use lib.ListN.{length}
 use Rattle.kind.specs.declared.BlockKind.{BlockKind}
+use Rattle.kind.specs.Loudness.{LOUDEST_LINE}
 use Rattle.block.specs.declared.BlockVerdict.{BlockVerdict}
 use Rattle.block.specs.declared.BlockVerdict.TheVariants.{Taken}
 use Rattle.block.specs.Tests.{tested_spectrum}
@@ -33,7 +34,7 @@ accepted xs lent kind e = spectrum_accepted (length lent ∷ []) xs kind e
 
 power-fits : (xs lent : List ℤ) (kind : BlockKind) → tested_power xs lent ≡ Taken kind → length lent ≡ length xs / 2 + 1
 unfolding tested_power
-power-fits xs lent kind e = (output_fits (length xs / 2 + 1) (length lent) [] (taken_fits _ _ (length lent ∷ []) xs kind e)).0
+power-fits xs lent kind e = (output_fits (length xs / 2 + 1) (length lent) [] (taken_fits (neg_ℤ (pos LOUDEST_LINE)) (pos LOUDEST_LINE) (length lent ∷ []) xs kind e)).0
 
 pub fill_powers-requires : goal.fill_powers-requires
 fill_powers-requires c =
@@ -42,8 +43,10 @@ fill_powers-requires c =
     ((_, accepted _ c.args.powers.now _ e), power-fits _ c.args.powers.now _ e)
 
 pub returns-in-Refused : goal.returns-in-Refused
-returns-in-Refused c = let r = c.before in let r = promised _ _ _ (found _ _ r.tested_spectrum.ensures.answer r.in-Refused.is (search rules)) refl refl (search rules) in record { answer = r.0; numbers = r.1.0; powers = r.1.1 }
+returns-in-Refused c =
+    let r = promised c.args.spectrum.now c.args.powers.now _ (found c.args.spectrum.now c.args.powers.now c.tested_spectrum.ensures.answer c.in-Refused.is (search rules)) refl refl refl in
+    record { answer = r.0; numbers = r.1.0; powers = r.1.1 }
 
 pub returns-in-Taken : goal.returns-in-Taken
 returns-in-Taken c =
-    let taken : tested_power c.args.spectrum.now c.args.powers.now ≡ Taken c.in-Taken.field-0 = found c.args.spectrum.now c.args.powers.now c.tested_spectrum.ensures.answer c.in-Taken.is (omega arith) in let r = promised _ _ _ taken refl refl c.fill_powers.ensures in record { answer = r.0; numbers = r.1.0; powers = r.1.1 }
+    let taken : tested_power c.args.spectrum.now c.args.powers.now ≡ Taken c.in-Taken.field-0 = found c.args.spectrum.now c.args.powers.now c.tested_spectrum.ensures.answer c.in-Taken.is (omega arith) in let r = promised c.args.spectrum.now c.args.powers.now _ taken refl refl c.fill_powers.ensures in record { answer = r.0; numbers = r.1.0; powers = r.1.1 }

@@ -39,16 +39,16 @@ pub returns-in-Refused : goal.returns-in-Refused
 returns-in-Refused c =
     let refused : tested_line c.args.line c.args.spectrum.now ≡ BlockRefused c.in-Refused.refusal = sym c.tested_line.ensures.answer ∙ c.in-Refused.is in
     let e = refused in record {
-        answer = sym (ap (scaled_to c.args.spectrum.now c.args.line) e);
-        numbers = sym (ap verdict_numbers e);
-        values = tt;
+      answer = sym (ap (scaled_to c.args.spectrum.now c.args.line) e);
+      numbers = sym (ap verdict_numbers e);
+      values = tt;
     }
 
 pub returns-in-Taken : goal.returns-in-Taken
 returns-in-Taken c =
     let taken : tested_line c.args.line c.args.spectrum.now ≡ Taken c.in-Taken.field-0 = sym c.tested_line.ensures.answer ∙ c.in-Taken.is in
     let xs = c.args.spectrum.now in let f = c.scaled_line.ensures in record {
-        answer = answer xs c.args.line _ taken f;
-        numbers = numbers xs c.args.line _ taken f;
-        values = exact xs c.args.line _ taken f;
+      answer = answer xs c.args.line _ taken f;
+      numbers = numbers xs c.args.line _ taken f;
+      values = exact xs c.args.line _ taken f;
     }
