@@ -1,6 +1,6 @@
 -- `cosine_of_sum` is right because the products of four numbers within ±2^30 and their difference fit.
 use mir.Syntax.{w64}
-use borrow.Author.Rules.{rules, sfits_of}
+use borrow.Author.Rules.{sfits_of}
 use mathlib.Core.Path.{◌∙◌}
 use mir.Facts.{to_z-of_z}
 use Rattle.exact_quarter.proofs.Products.{cosines_fit, sines_fit, difference_fits}

@@ -10,13 +10,12 @@ use lib.ListN.{length, set, length-set}
 use lib.Pow.{pow_pos, pow-add, pow_mono}
 use mir.Facts.{to_z-of_z}
 use mir.Syntax.{w64}
-use mir.Val.{to_z}
 use Rattle.ints.specs.Tabulate.{tabulate}
 use Rattle.residues.specs.Residue.{centred, residue}
 use Rattle.exact_pair.specs.Pair.{cosine_step, quarter_of}
 use Rattle.exact_quarter.specs.Stepping.{Fills}
-use Rattle.exact_quarter.proofs.Ends.{Ends, ends_none, ends_next, ends_all}
-use Rattle.exact_quarter.proofs.Steps.{AtStep, cosine_none, sine_none, sine-is-cosine, on_turn, step_next}
+use Rattle.exact_quarter.proofs.Ends.{ends_none, ends_next, ends_all}
+use Rattle.exact_quarter.proofs.Steps.{cosine_none, sine_none, sine-is-cosine, on_turn, step_next}
 use Rattle.exact_quarter.proofs.fill_by.Invariants.{Reached}
 use Rattle.exact_quarter.proofs.fill_by.Goals as goal
 

@@ -1,6 +1,6 @@
 -- `fill_quarter` is right because what `step_between` ensures of cosine and sine is what `fill_by` asks of them.
 use mir.Syntax.{w64}
-use borrow.Author.Rules.{rules, sfits_of}
+use borrow.Author.Rules.{sfits_of}
 use mathlib.Core.Path.{◌∙◌}
 use mir.Facts.{to_z-of_z}
 use Rattle.exact_quarter.proofs.fill_quarter.Goals as goal

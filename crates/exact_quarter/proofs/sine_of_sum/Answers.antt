@@ -1,6 +1,6 @@
 -- `sine_of_sum` is right because the products of four numbers within ±2^30 and their sum fit.
 use mir.Syntax.{w64}
-use borrow.Author.Rules.{rules, sfits_of}
+use borrow.Author.Rules.{sfits_of}
 use mathlib.Core.Path.{◌∙◌}
 use mir.Facts.{to_z-of_z}
 use Rattle.exact_quarter.proofs.Products.{cosine-sine_fit, sine-cosine_fit, sum_fits}

@@ -5,9 +5,8 @@ use native.Mathlib.Omega.{arith}
 use borrow.Author.Rules.{sfits_of}
 use mir.Facts.{to_z-of_z}
 use mir.Syntax.{w64}
-use mir.Val.{to_z}
 use Rattle.ints.proofs.Powers.{two_pow}
-use Rattle.exact_quarter.proofs.Steps.{AtStep, cosine_one, sine_one, on_turn, step_next}
+use Rattle.exact_quarter.proofs.Steps.{cosine_one, sine_one, on_turn, step_next}
 use Rattle.exact_quarter.proofs.step_between.Goals as goal
 
 -- how many steps there are before the loop, and after one turn more
