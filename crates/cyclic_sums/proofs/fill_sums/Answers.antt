@@ -1,5 +1,4 @@
 -- `fill_sums` is right because a cyclic sum is the dot product of the samples and of as many of the weights backwards, twice.
-use borrow.Author.Rules.{rules}
 use mathlib.Core.Path.{◌≡◌, sym, ◌∙◌, ap}
 use mathlib.Core.List.{List}
 use Prim.Native.Nat.{ℕ, ◌*◌}

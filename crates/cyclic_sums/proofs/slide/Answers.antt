@@ -1,5 +1,4 @@
 -- `slide` is right because the sum at moment t is the dot product of the samples and of as many turned weights, from place n − 1 − t on.
-use borrow.Author.Rules.{rules}
 use mathlib.Core.Path.{◌≡◌, refl, ◌∙◌, ap}
 use mathlib.Core.List.{List}
 use Prim.Native.Nat.{ℕ, ◌+◌, ◌-◌, ◌^◌, ◌≤◌}

@@ -1,5 +1,4 @@
 -- `sum_cells` is right because the samples are copied into a room of their own, so that they are still there when the sums take their place.
-use borrow.Author.Rules.{rules}
 use mathlib.Core.Path.{◌≡◌, refl, sym, ◌∙◌, ap}
 use mathlib.Core.List.{List}
 use Prim.Native.Nat.{ℕ, ◌*◌, ◌≤◌}

@@ -1,6 +1,6 @@
 -- `turn_back` is right because weight n − 1 − i goes to place i of both halves.
 use borrow.Author.Count.{below_more}
-use borrow.Author.Rules.{rules, sfits_of}
+use borrow.Author.Rules.{sfits_of}
 use mathlib.Core.Path.{◌≡◌, ◌∙◌}
 use mathlib.Core.List.{List}
 use Prim.Native.Nat.{ℕ, ◌+◌, ◌*◌, ◌-◌, ◌≤◌, ◌<◌}
