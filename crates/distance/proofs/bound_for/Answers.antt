@@ -1,12 +1,12 @@
 -- `bound_for` is right because each round makes the bound of so many levels that of one more, and the first two levels have bound 0.
 use mathlib.Core.Path.{◌≡◌, refl, sym, ◌∙◌, ap}
-use mathlib.Core.Logic.{◌⊎◌, inl, inr, ⊎_elim}
-use Prim.Native.Nat.{ℕ, suc, ◌+◌, ◌*◌, ◌-◌, ◌^◌, ◌≤◌, ◌<◌}
+use mathlib.Core.Logic.{inl, inr}
+use Prim.Native.Nat.{ℕ, suc, ◌+◌, ◌*◌, ◌^◌, ◌≤◌, ◌<◌}
 use native.Mathlib.Nat.{le_trans, mul-le-mul, mul-le-mul_right}
 use native.Mathlib.Omega.{arith}
 use lib.Pow.{pow_mono}
 use Rattle.ints.proofs.Powers.{two_pow}
-use Rattle.spectrum.specs.Distance.{bound, ceiling}
+use Rattle.spectrum.specs.Distance.{ceiling}
 use Rattle.spectrum.proofs.Bound.{bound_early, bound_next, bound-size}
 use Rattle.distance.specs.Inner.{CanBound, CanStep}
 use Rattle.distance.proofs.bound_for.Invariants.{Reached, done}

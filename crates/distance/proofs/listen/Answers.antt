@@ -1,12 +1,10 @@
 -- `listen` is right because no cell before the one that it has come to is loud, and the largest magnitude of those is kept.
 use mir.Syntax.{w64}
-use borrow.Author.Rules.{rules, sfits_of}
+use borrow.Author.Rules.{sfits_of}
 use mathlib.Core.Path.{refl}
-use Prim.Native.Nat.{◌-◌}
 use native.Mathlib.Omega.{arith}
-use lib.ListN.{length}
 use mir.Facts.{to_z-of_z}
-use Rattle.distance.proofs.Listening.{Going, going_all, going_loud, going_none, going_on}
+use Rattle.distance.proofs.Listening.{going_all, going_loud, going_none, going_on}
 use Rattle.distance.proofs.listen.Goals as goal
 
 pub loop-i-init : goal.loop-i-init
