@@ -6,7 +6,7 @@ ghost use Rattle.trace.specs.Contents.{LONGEST};
 ghost use Rattle.listing.specs.Listing.{ROOM};
 ghost use Rattle.list.specs.Input.{Fits};
 
-use libc::{STDERR_FILENO, STDIN_FILENO, STDOUT_FILENO};
+use std::io::Read;
 
 // What was read from standard input: so many bytes, or a read failed.
 #[derive(Clone, Copy)]
@@ -16,17 +16,17 @@ enum Input {
 }
 
 // Reads, lists and writes. It keeps its samples in one block of 1,024 zero cells at the start.
-fn main() {
+fn main(rt: HostRuntime) {
     let mut trace = input_buffer();
     let mut out = output_buffer();
-    match read_trace(&mut trace) {
+    match read_trace(&mut rt.stdin(), &mut trace) {
         Input::Failed => {
-            io::write_all(STDERR_FILENO, b"list: the trace cannot be read\n");
+            let _ = eprintln!(rt; "list: the trace cannot be read");
         }
         Input::Read(len) => {
             let used = listing::list(&trace[..len], [0i64; 1024], &mut out);
-            if !io::write_all(STDOUT_FILENO, &out[..used]) {
-                io::write_all(STDERR_FILENO, b"list: the listing cannot be written\n");
+            if rt.write_all(&out[..used]).is_err() {
+                let _ = eprintln!(rt; "list: the listing cannot be written");
             }
         }
     }
@@ -46,21 +46,17 @@ fn output_buffer() -> [u8; listing::ROOM]
     [0; listing::ROOM]
 }
 
-// Reads standard input until the bytes are full or the input ends.
-fn read_trace(bytes: &mut [u8]) -> Input
+// Reads the input until the bytes are full or the input ends.
+fn read_trace(input: &mut impl Read, bytes: &mut [u8]) -> Input
     ensures { Fits result bytes.new }
 {
     let mut n = 0;
     while n < bytes.len() {
-        let got = libc::read(STDIN_FILENO, &mut bytes[n..]);
-        if got < 0 {
-            return Input::Failed;
+        match input.read(&mut bytes[n..]) {
+            Err(_) => return Input::Failed,
+            Ok(0) => return Input::Read(n),
+            Ok(more) => n += more,
         }
-        let more = io::count(got, &bytes[n..]);
-        if more == 0 {
-            return Input::Read(n);
-        }
-        n += more;
     }
     Input::Read(n)
 }

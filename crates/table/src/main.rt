@@ -4,14 +4,12 @@
 ghost use Rattle.std.specs.Prelude.{◌≡◌, length};
 ghost use Rattle.table_text.specs.TableText.{ROOM};
 
-use libc::{STDERR_FILENO, STDOUT_FILENO};
-
 // Has the table put into its bytes, and writes them.
-fn main() {
+fn main(rt: HostRuntime) {
     let mut out = output_buffer();
     let used = table_text::put_table(&mut out);
-    if !io::write_all(STDOUT_FILENO, &out[..used]) {
-        io::write_all(STDERR_FILENO, b"table: the table cannot be written\n");
+    if rt.write_all(&out[..used]).is_err() {
+        let _ = eprintln!(rt; "table: the table cannot be written");
     }
 }
 

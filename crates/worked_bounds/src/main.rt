@@ -7,44 +7,45 @@ use distance::BoundAnswer;
 use printing::{
     print_cells, print_line_end, print_refusal, print_signed, print_text, print_unsigned,
 };
+use std::io::Result;
 
-fn main() {
+fn main(rt: HostRuntime) -> Result<()> {
     // two and four samples, however loud
-    bound_of(&[32767, -32768]);
-    bound_of(&[32767, -32768, 0, 0]);
+    bound_of(&rt, &[32767, -32768])?;
+    bound_of(&rt, &[32767, -32768, 0, 0])?;
     // eight: silent, quiet and at either limit
-    bound_of(&[0, 0, 0, 0, 0, 0, 0, 0]);
-    bound_of(&[1, 2, 3, -100, 5, 6, 7, 8]);
-    bound_of(&[1, 2, 3, 4, 5, 6, 7, 32767]);
-    bound_of(&[-32768, 2, 3, 4, 5, 6, 7, 8]);
+    bound_of(&rt, &[0, 0, 0, 0, 0, 0, 0, 0])?;
+    bound_of(&rt, &[1, 2, 3, -100, 5, 6, 7, 8])?;
+    bound_of(&rt, &[1, 2, 3, 4, 5, 6, 7, 32767])?;
+    bound_of(&rt, &[-32768, 2, 3, 4, 5, 6, 7, 8])?;
     // the paper's own, of 1,024
-    bound_of_zeros_and(100);
-    bound_of_zeros_and(-100);
-    bound_of_zeros_and(0);
-    bound_of_zeros_and(-32768);
-    refusals();
+    bound_of_zeros_and(&rt, 100)?;
+    bound_of_zeros_and(&rt, -100)?;
+    bound_of_zeros_and(&rt, 0)?;
+    bound_of_zeros_and(&rt, -32768)?;
+    refusals(&rt)
 }
 
 // 1 before 3, and 3 beyond either limit.
-fn refusals() {
-    bound_of(&[]);
-    bound_of(&[40000, 1, 2]);
-    bound_of(&[1, 2, 32768, -40000]);
-    bound_of(&[1, -32769]);
-    bound_of_zeros_and(32768);
+fn refusals(rt: &impl Print) -> Result<()> {
+    bound_of(rt, &[])?;
+    bound_of(rt, &[40000, 1, 2])?;
+    bound_of(rt, &[1, 2, 32768, -40000])?;
+    bound_of(rt, &[1, -32769])?;
+    bound_of_zeros_and(rt, 32768)
 }
 
 // What is answered of a block.
-fn bound_of(cells: &[i64]) {
-    print_cells(b"bound of", cells);
-    print_bound(distance::bound(cells));
+fn bound_of(rt: &impl Print, cells: &[i64]) -> Result<()> {
+    print_cells(rt, b"bound of", cells)?;
+    print_bound(rt, distance::bound(cells))
 }
 
 // The same of 1,024 cells that are 0, but for cell 1,000, which is x.
-fn bound_of_zeros_and(x: i64) {
-    print_text(b"bound of zeros and");
-    print_signed(x);
-    print_bound(distance::bound(&zeros_and(x)));
+fn bound_of_zeros_and(rt: &impl Print, x: i64) -> Result<()> {
+    print_text(rt, b"bound of zeros and")?;
+    print_signed(rt, x)?;
+    print_bound(rt, distance::bound(&zeros_and(x)))
 }
 
 // Those cells.
@@ -57,11 +58,11 @@ fn zeros_and(x: i64) -> [i64; 1024]
 }
 
 // The bound, or the refusal, after a colon.
-fn print_bound(answer: BoundAnswer) {
-    print_text(b":");
+fn print_bound(rt: &impl Print, answer: BoundAnswer) -> Result<()> {
+    print_text(rt, b":")?;
     match answer {
-        BoundAnswer::Bound(bound) => print_unsigned(bound as usize),
-        BoundAnswer::Refused(refusal) => print_refusal(refusal),
+        BoundAnswer::Bound(bound) => print_unsigned(rt, bound as usize)?,
+        BoundAnswer::Refused(refusal) => print_refusal(rt, refusal)?,
     }
-    print_line_end();
+    print_line_end(rt)
 }

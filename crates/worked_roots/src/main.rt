@@ -2,47 +2,48 @@
 #![tactic(auto)]
 
 use printing::{print_line_end, print_text, print_unsigned};
+use std::io::Result;
 
-fn main() {
+fn main(rt: HostRuntime) -> Result<()> {
     // squares, and the numbers before and after them
-    root_of(0);
-    root_of(1);
-    root_of(3);
-    root_of(4);
-    root_of(8);
-    root_of(9);
-    root_of(10);
-    root_of(4294967295);
-    root_of(4294967296);
-    root_of(18446744065119617024);
-    root_of(18446744065119617025);
-    root_of(18446744073709551615);
+    root_of(&rt, 0)?;
+    root_of(&rt, 1)?;
+    root_of(&rt, 3)?;
+    root_of(&rt, 4)?;
+    root_of(&rt, 8)?;
+    root_of(&rt, 9)?;
+    root_of(&rt, 10)?;
+    root_of(&rt, 4294967295)?;
+    root_of(&rt, 4294967296)?;
+    root_of(&rt, 18446744065119617024)?;
+    root_of(&rt, 18446744065119617025)?;
+    root_of(&rt, 18446744073709551615)?;
     // x × 4^29: its root is 2^29 times that of x, and then rounded down; of 2^61 it is F(128)
-    long_root_of(0);
-    long_root_of(1);
-    long_root_of(2);
-    long_root_of(4);
-    long_root_of(2305843009213693952);
-    long_root_of(4611686018427387904);
-    long_root_of(18446744073709551615);
+    long_root_of(&rt, 0)?;
+    long_root_of(&rt, 1)?;
+    long_root_of(&rt, 2)?;
+    long_root_of(&rt, 4)?;
+    long_root_of(&rt, 2305843009213693952)?;
+    long_root_of(&rt, 4611686018427387904)?;
+    long_root_of(&rt, 18446744073709551615)
 }
 
 // The root of x.
-fn root_of(x: u64) {
-    print_text(b"root of");
-    print_root(x, roots::root(x));
+fn root_of(rt: &impl Print, x: u64) -> Result<()> {
+    print_text(rt, b"root of")?;
+    print_root(rt, x, roots::root(x))
 }
 
 // The root of x × 4^29.
-fn long_root_of(x: u64) {
-    print_text(b"long root of");
-    print_root(x, roots::long_root(x));
+fn long_root_of(rt: &impl Print, x: u64) -> Result<()> {
+    print_text(rt, b"long root of")?;
+    print_root(rt, x, roots::long_root(x))
 }
 
 // The number, and its root after a colon.
-fn print_root(x: u64, root: u64) {
-    print_unsigned(x as usize);
-    print_text(b":");
-    print_unsigned(root as usize);
-    print_line_end();
+fn print_root(rt: &impl Print, x: u64, root: u64) -> Result<()> {
+    print_unsigned(rt, x as usize)?;
+    print_text(rt, b":")?;
+    print_unsigned(rt, root as usize)?;
+    print_line_end(rt)
 }

@@ -3,130 +3,138 @@
 // bytes are kept. A trace that is saved follows in hex, as in the documents, and is read back by check and fetch.
 #![tactic(auto)]
 
-ghost use Rattle.std.specs.Prelude.{◌≡◌, ◌≤◌, ◌<◌, length};
+ghost use Rattle.std.specs.Prelude.{◌≡◌, ◌≤◌, ◌<◌, length, IfOk};
 
 use printing::{print_cells, print_line_end, print_refusal, print_text, print_unsigned};
 use save_tests::SaveAnswer;
+use std::io::Result;
 use trace::TraceAnswer;
 
 // What every lent byte holds before a save.
 const LENT: u8 = 0xAA;
 
-fn main() {
-    listing();
-    no_blocks();
-    sample_bytes();
-    heads();
-    lengths();
-    loud_cells();
-    misfits();
-    order();
-    long_runs();
+fn main(rt: HostRuntime) -> Result<()> {
+    listing(&rt)?;
+    no_blocks(&rt)?;
+    sample_bytes(&rt)?;
+    heads(&rt)?;
+    lengths(&rt)?;
+    loud_cells(&rt)?;
+    misfits(&rt)?;
+    order(&rt)?;
+    long_runs(&rt)
 }
 
 // The listing's trace, in as many bytes as it has and in four more; and its cells in two blocks.
-fn listing() {
+fn listing(rt: &impl Print) -> Result<()> {
     let cells = [1, 2, 3, 4];
-    saved(8000, 2, &cells, 32);
-    saved(8000, 2, &cells, 36);
-    saved(8000, 1, &cells, 38);
+    saved(rt, 8000, 2, &cells, 32)?;
+    saved(rt, 8000, 2, &cells, 36)?;
+    saved(rt, 8000, 1, &cells, 38)
 }
 
 // A head and an end; the same with the least rate and P, and with the largest.
-fn no_blocks() {
-    saved_empty(8000, 2, 18);
-    saved_empty(1, 1, 18);
-    saved_empty(4294967295, 10, 20);
+fn no_blocks(rt: &impl Print) -> Result<()> {
+    saved_empty(rt, 8000, 2, 18)?;
+    saved_empty(rt, 1, 1, 18)?;
+    saved_empty(rt, 4294967295, 10, 20)
 }
 
 // The limits of a sample, its sign and the order of its bytes.
-fn sample_bytes() {
-    saved(8000, 1, &[-32768, 32767, -1, -256, 255, 513], 48);
+fn sample_bytes(rt: &impl Print) -> Result<()> {
+    saved(rt, 8000, 1, &[-32768, 32767, -1, -256, 255, 513], 48)
 }
 
 // 15: rates and P beyond their limits, where nothing else is wrong.
-fn heads() {
-    saved_empty(0, 1, 18);
-    saved_empty(4294967296, 1, 18);
-    saved_empty(18446744073709551615, 1, 18);
-    saved_empty(8000, 0, 18);
-    saved_empty(8000, 11, 18);
-    saved_empty(8000, 18446744073709551615, 18);
+fn heads(rt: &impl Print) -> Result<()> {
+    saved_empty(rt, 0, 1, 18)?;
+    saved_empty(rt, 4294967296, 1, 18)?;
+    saved_empty(rt, 18446744073709551615, 1, 18)?;
+    saved_empty(rt, 8000, 0, 18)?;
+    saved_empty(rt, 8000, 11, 18)?;
+    saved_empty(rt, 8000, 18446744073709551615, 18)
 }
 
 // 1: a block and a half, and half a block.
-fn lengths() {
-    saved(8000, 1, &[1, 2, 3], 48);
-    saved(8000, 3, &[1, 2, 3, 4], 48);
+fn lengths(rt: &impl Print) -> Result<()> {
+    saved(rt, 8000, 1, &[1, 2, 3], 48)?;
+    saved(rt, 8000, 3, &[1, 2, 3, 4], 48)
 }
 
 // 3: just beyond the limits of a sample, and far beyond them; the first of two loud cells.
-fn loud_cells() {
-    saved(8000, 1, &[1, 2, 32768, 4], 38);
-    saved(8000, 2, &[1, 2, -32769, 4], 32);
-    saved(8000, 1, &[-9223372036854775808, 2], 28);
-    saved(8000, 1, &[1, 65537, 9223372036854775807, 4], 38);
+fn loud_cells(rt: &impl Print) -> Result<()> {
+    saved(rt, 8000, 1, &[1, 2, 32768, 4], 38)?;
+    saved(rt, 8000, 2, &[1, 2, -32769, 4], 32)?;
+    saved(rt, 8000, 1, &[-9223372036854775808, 2], 28)?;
+    saved(rt, 8000, 1, &[1, 65537, 9223372036854775807, 4], 38)
 }
 
 // 2: one byte too few, and no byte at all.
-fn misfits() {
+fn misfits(rt: &impl Print) -> Result<()> {
     let cells = [1, 2, 3, 4];
-    saved(8000, 2, &cells, 31);
-    saved(8000, 1, &cells, 37);
-    saved(8000, 2, &cells, 0);
-    saved_empty(8000, 2, 17);
+    saved(rt, 8000, 2, &cells, 31)?;
+    saved(rt, 8000, 1, &cells, 37)?;
+    saved(rt, 8000, 2, &cells, 0)?;
+    saved_empty(rt, 8000, 2, 17)
 }
 
 // 15 before 1, 3 and 2; 1 before 3 and 2; 3 before 2.
-fn order() {
+fn order(rt: &impl Print) -> Result<()> {
     let cells = [1, 2, 32768];
-    saved(0, 1, &cells, 27);
-    saved(8000, 1, &cells, 27);
-    saved(8000, 1, &[1, 2, 32768, 4], 27);
+    saved(rt, 0, 1, &cells, 27)?;
+    saved(rt, 8000, 1, &cells, 27)?;
+    saved(rt, 8000, 1, &[1, 2, 32768, 4], 27)
 }
 
 // 10: 6,551 blocks of two cells are 65,528 bytes, and with one block more 65,538. 3 comes before 10, and 10 before 2.
-fn long_runs() {
-    long_saved(13102, 65528);
-    long_saved(13104, 65538);
-    long_saved(13104, 18);
-    long_saved(13106, 18);
+fn long_runs(rt: &impl Print) -> Result<()> {
+    long_saved(rt, 13102, 65528)?;
+    long_saved(rt, 13104, 65538)?;
+    long_saved(rt, 13104, 18)?;
+    long_saved(rt, 13106, 18)
 }
 
 // Saves no cells where so many bytes are lent.
-fn saved_empty(rate: usize, p: usize, room: usize)
+fn saved_empty(rt: &impl Print, rate: usize, p: usize, room: usize) -> Result<()>
     requires { room ≤ 48 }
 {
-    saved(rate, p, &[], room);
+    saved(rt, rate, p, &[], room)
 }
 
 // Saves a run of cells where so many bytes are lent.
-fn saved(rate: usize, p: usize, cells: &[i64], room: usize)
+fn saved(rt: &impl Print, rate: usize, p: usize, cells: &[i64], room: usize) -> Result<()>
     requires { room ≤ 48 }
 {
     let mut bytes = [LENT; 48];
-    saved_into(rate, p, cells, &mut bytes[..room]);
+    saved_into(rt, rate, p, cells, &mut bytes[..room])
 }
 
 // Saves a run of cells in these bytes, and reads the trace back.
-fn saved_into(rate: usize, p: usize, cells: &[i64], bytes: &mut [u8]) {
-    print_asked(rate, p, bytes.len());
-    print_cells(b" cells", cells);
-    let used = answered(rate, p, cells, bytes);
-    print_kept(bytes, used);
+fn saved_into(
+    rt: &impl Print,
+    rate: usize,
+    p: usize,
+    cells: &[i64],
+    bytes: &mut [u8],
+) -> Result<()> {
+    print_asked(rt, rate, p, bytes.len())?;
+    print_cells(rt, b" cells", cells)?;
+    let used = answered(rt, rate, p, cells, bytes)?;
+    print_kept(rt, bytes, used)?;
     if 0 < used {
-        print_bytes(&bytes[..used]);
-        read_back(&bytes[..used]);
+        print_bytes(rt, &bytes[..used])?;
+        read_back(rt, &bytes[..used])?;
     }
+    Ok(())
 }
 
 // Saves so many cells of the long run, in blocks of two, where so many bytes are lent.
-fn long_saved(count: usize, room: usize)
+fn long_saved(rt: &impl Print, count: usize, room: usize) -> Result<()>
     requires { (count ≤ 13106) × (room ≤ 65538) }
 {
     let cells = long_run();
     let mut bytes = long_room();
-    long_saved_into(&cells[..count], &mut bytes[..room]);
+    long_saved_into(rt, &cells[..count], &mut bytes[..room])
 }
 
 // Two blocks of two cells more than have room in a trace. The last cell is loud.
@@ -146,58 +154,65 @@ fn long_room() -> [u8; 65538]
 }
 
 // Saves cells of the long run in these bytes, and fetches the last of the trace's 6,551 blocks.
-fn long_saved_into(cells: &[i64], bytes: &mut [u8]) {
-    print_asked(8000, 1, bytes.len());
-    print_unsigned(cells.len());
-    print_text(b" cells");
-    let used = answered(8000, 1, cells, bytes);
-    print_kept(bytes, used);
+fn long_saved_into(rt: &impl Print, cells: &[i64], bytes: &mut [u8]) -> Result<()> {
+    print_asked(rt, 8000, 1, bytes.len())?;
+    print_unsigned(rt, cells.len())?;
+    print_text(rt, b" cells")?;
+    let used = answered(rt, 8000, 1, cells, bytes)?;
+    print_kept(rt, bytes, used)?;
     if 0 < used {
-        fetched(&bytes[..used], 6550, 1);
+        fetched(rt, &bytes[..used], 6550, 1)?;
     }
+    Ok(())
 }
 
 // Rate, P and the number of lent bytes. The cells follow.
-fn print_asked(rate: usize, p: usize, room: usize) {
-    print_text(b"save rate");
-    print_unsigned(rate);
-    print_text(b", P");
-    print_unsigned(p);
-    print_text(b" into");
-    print_unsigned(room);
-    print_text(b" bytes,");
+fn print_asked(rt: &impl Print, rate: usize, p: usize, room: usize) -> Result<()> {
+    print_text(rt, b"save rate")?;
+    print_unsigned(rt, rate)?;
+    print_text(rt, b", P")?;
+    print_unsigned(rt, p)?;
+    print_text(rt, b" into")?;
+    print_unsigned(rt, room)?;
+    print_text(rt, b" bytes,")
 }
 
 // Prints what save answers, and answers how many of the lent bytes are used: none where it refuses.
-fn answered(rate: usize, p: usize, cells: &[i64], bytes: &mut [u8]) -> usize
-    ensures { result ≤ length bytes.new }
+fn answered(
+    rt: &impl Print,
+    rate: usize,
+    p: usize,
+    cells: &[i64],
+    bytes: &mut [u8],
+) -> Result<usize>
+    ensures { IfOk result (λ used. used ≤ length bytes.new) }
 {
     let answer = saving::save(rate, p, cells, bytes);
-    print_answer(answer);
+    print_answer(rt, answer)?;
     match answer {
-        SaveAnswer::Saved(used) => used,
-        SaveAnswer::Refused(_) => 0,
+        SaveAnswer::Saved(used) => Ok(used),
+        SaveAnswer::Refused(_) => Ok(0),
     }
 }
 
 // The number of bytes used, or the refusal.
-fn print_answer(answer: SaveAnswer) {
-    print_text(b":");
+fn print_answer(rt: &impl Print, answer: SaveAnswer) -> Result<()> {
+    print_text(rt, b":")?;
     match answer {
         SaveAnswer::Saved(used) => {
-            print_unsigned(used);
-            print_text(b" used");
+            print_unsigned(rt, used)?;
+            print_text(rt, b" used")
         }
-        SaveAnswer::Refused(refusal) => print_refusal(refusal),
+        SaveAnswer::Refused(refusal) => print_refusal(rt, refusal),
     }
 }
 
 // How many of the lent bytes are kept from a place on.
-fn print_kept(bytes: &[u8], start: usize) {
-    print_text(b",");
-    print_unsigned(kept(bytes, start));
-    print_text(b" kept");
-    print_line_end();
+fn print_kept(rt: &impl Print, bytes: &[u8], start: usize) -> Result<()> {
+    print_text(rt, b",")?;
+    print_unsigned(rt, kept(bytes, start))?;
+    print_text(rt, b" kept")?;
+    print_line_end(rt)
 }
 
 // How many bytes from a place on hold what every lent byte held, up to the first that does not.
@@ -213,19 +228,19 @@ fn kept(bytes: &[u8], start: usize) -> usize {
 }
 
 // The bytes of a saved trace.
-fn print_bytes(bytes: &[u8]) {
-    print_text(b"saved bytes");
+fn print_bytes(rt: &impl Print, bytes: &[u8]) -> Result<()> {
+    print_text(rt, b"saved bytes")?;
     let mut i = 0;
     while i < bytes.len() {
-        print_byte(bytes[i]);
+        print_byte(rt, bytes[i])?;
         i += 1;
     }
-    print_line_end();
+    print_line_end(rt)
 }
 
 // A space and the two digits of a byte.
-fn print_byte(byte: u8) {
-    print_text(&[b' ', digit(byte / 16), digit(byte % 16)]);
+fn print_byte(rt: &impl Print, byte: u8) -> Result<()> {
+    print_text(rt, &[b' ', digit(byte / 16), digit(byte % 16)])
 }
 
 // The hex digit of a number below 16.
@@ -236,52 +251,54 @@ fn digit(d: u8) -> u8
 }
 
 // What check answers to a saved trace, and what fetch answers for each of its blocks.
-fn read_back(trace: &[u8]) {
+fn read_back(rt: &impl Print, trace: &[u8]) -> Result<()> {
     let answer = trace::check(trace);
-    print_text(b"saved trace:");
-    print_trace_answer(answer);
-    print_line_end();
+    print_text(rt, b"saved trace:")?;
+    print_trace_answer(rt, answer)?;
+    print_line_end(rt)?;
     if let TraceAnswer::Accepted { head, blocks } = answer {
-        read_blocks(trace, head.p, blocks);
+        read_blocks(rt, trace, head.p, blocks)?;
     }
+    Ok(())
 }
 
 // What fetch answers for each of so many blocks.
-fn read_blocks(trace: &[u8], p: usize, blocks: usize) {
+fn read_blocks(rt: &impl Print, trace: &[u8], p: usize, blocks: usize) -> Result<()> {
     let mut k = 0;
     while k < blocks {
-        fetched(trace, k, p);
+        fetched(rt, trace, k, p)?;
         k += 1;
     }
+    Ok(())
 }
 
 // What fetch answers for block k, which has two cells or four. The lent cells hold 7.
-fn fetched(trace: &[u8], k: usize, p: usize) {
+fn fetched(rt: &impl Print, trace: &[u8], k: usize, p: usize) -> Result<()> {
     if p == 1 {
-        fetched_into(trace, k, &mut [7, 7]);
+        fetched_into(rt, trace, k, &mut [7, 7])
     } else {
-        fetched_into(trace, k, &mut [7, 7, 7, 7]);
+        fetched_into(rt, trace, k, &mut [7, 7, 7, 7])
     }
 }
 
 // What fetch answers for block k and these cells, and the cells that it leaves.
-fn fetched_into(trace: &[u8], k: usize, cells: &mut [i64]) {
-    print_text(b"saved trace, block");
-    print_unsigned(k);
-    print_text(b":");
-    print_trace_answer(trace::fetch(trace, k, cells));
-    print_cells(b", cells", cells);
-    print_line_end();
+fn fetched_into(rt: &impl Print, trace: &[u8], k: usize, cells: &mut [i64]) -> Result<()> {
+    print_text(rt, b"saved trace, block")?;
+    print_unsigned(rt, k)?;
+    print_text(rt, b":")?;
+    print_trace_answer(rt, trace::fetch(trace, k, cells))?;
+    print_cells(rt, b", cells", cells)?;
+    print_line_end(rt)
 }
 
 // Rate, P and the number of blocks, or the refusal.
-fn print_trace_answer(answer: TraceAnswer) {
+fn print_trace_answer(rt: &impl Print, answer: TraceAnswer) -> Result<()> {
     match answer {
         TraceAnswer::Accepted { head, blocks } => {
-            print_unsigned(head.rate);
-            print_unsigned(head.p);
-            print_unsigned(blocks);
+            print_unsigned(rt, head.rate)?;
+            print_unsigned(rt, head.p)?;
+            print_unsigned(rt, blocks)
         }
-        TraceAnswer::Refused(refusal) => print_refusal(refusal),
+        TraceAnswer::Refused(refusal) => print_refusal(rt, refusal),
     }
 }

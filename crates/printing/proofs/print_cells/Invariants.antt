@@ -4,7 +4,7 @@ use lib.ListN.{length}
 use Rattle.printing.proofs.print_cells.Given as goal
 
 abbrev pub invariant-loop-i : goal.invariant-loop-i
-invariant-loop-i l = l.i ≤ length l.cells
+invariant-loop-i g l = l.i ≤ length l.cells
 
 abbrev pub decreases-loop-i : goal.decreases-loop-i
-decreases-loop-i l = length l.cells - l.i
+decreases-loop-i g l = length l.cells - l.i
