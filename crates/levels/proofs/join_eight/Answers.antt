@@ -1,5 +1,4 @@
 -- `join_eight` is right because levels 1 and 2 of both fours are those of the eight, and their join is level 3.
-use borrow.Author.Rules.{rules}
 use mathlib.Core.Path.{◌≡◌}
 use native.Mathlib.Omega.{arith}
 use lib.ListN.{take, drop}

@@ -1,12 +1,12 @@
 -- `join_eights` is right because each round does levels 1 to 3 of one more eight, from the front on, and leaves all others as they are.
 use borrow.Author.Rules.{rules}
 use mathlib.Core.Path.{refl}
-use Prim.Native.Nat.{◌+◌, ◌-◌, ◌≤◌}
+use Prim.Native.Nat.{◌+◌, ◌≤◌}
 use native.Mathlib.Omega.{arith}
 use lib.ListN.{length}
 use mir.Facts.{to_z-of_z}
 use Rattle.levels.proofs.PartByPart.{part_inside}
-use Rattle.levels.proofs.TwoBlocks.{BlocksDone, no_block_done, next_long, next_ready, block_done, blocks_done}
+use Rattle.levels.proofs.TwoBlocks.{no_block_done, next_long, next_ready, block_done, blocks_done}
 use Rattle.levels.proofs.join_eights.Goals as goal
 
 pub loop-base-init : goal.loop-base-init

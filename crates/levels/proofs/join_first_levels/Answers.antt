@@ -1,5 +1,4 @@
 -- `join_first_levels` is right because the quarter's ends and its middle are a table of three entries, and levels 1 to 3 need no other.
-use borrow.Author.Rules.{rules}
 use mathlib.Core.Path.{◌≡◌, refl, ◌∙◌, ap}
 use mathlib.Core.List.{List, [], ◌∷◌}
 use Prim.Native.Nat.{ℕ, ◌+◌, ◌*◌, ◌-◌, ◌/◌, ◌^◌, ◌≤◌}

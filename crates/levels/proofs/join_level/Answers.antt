@@ -14,7 +14,7 @@ use Rattle.spectrum.specs.Limits.{Room}
 use Rattle.spectrum.specs.Spectrum.{level_at}
 use Rattle.pair.specs.Pair.{Joinable, joined_pair}
 use Rattle.levels.specs.Ready.{LevelReady}
-use Rattle.levels.proofs.PartByPart.{Done, none_done, part_inside, part_long, part_cell, done_next, all_done}
+use Rattle.levels.proofs.PartByPart.{none_done, part_inside, part_long, part_cell, done_next, all_done}
 use Rattle.levels.proofs.Blocks.{level_keeps, level-within, pair_is-level, pair_ready}
 use Rattle.levels.proofs.join_level.Invariants.{PairsDone}
 use Rattle.levels.proofs.join_level.Goals as goal

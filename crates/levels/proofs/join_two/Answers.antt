@@ -1,5 +1,4 @@
 -- `join_two` is right because line 0 of halves of one cell is their sum and line 1 their difference (`two_joined`).
-use borrow.Author.Rules.{rules}
 use mathlib.Core.Path.{◌∙◌}
 use native.Mathlib.Omega.{arith}
 use Rattle.levels.proofs.Twos.{two_joined}
