@@ -10,7 +10,6 @@ use lib.ListN.{length, set, length-set}
 use lib.Seq.{get_or-set_same, get_or-set_other}
 use mir.Facts.{to_z-of_z}
 use mir.Syntax.{w64}
-use mir.Val.{to_z, of_z}
 use Rattle.ints.specs.Cells.{cell}
 use Rattle.cyclic_sums.specs.Short.{turned_back}
 use Rattle.cyclic_sums.proofs.Turning.{turned_all}
@@ -52,8 +51,7 @@ pub overflow_add-weight : goal.overflow_add-weight
 overflow_add-weight c = omega (arith, c.loop-i.invariant.twice)
 
 pub bounds-turned-n : goal.bounds-turned-n
-bounds-turned-n c = let l = c.loop-i in let weights = c.args.weights.now in
-    omega (arith, length-set l.turned l.i (to_z w64 (of_z w64 (cell weights (length weights - 1 - l.i)))), l.invariant.twice)
+bounds-turned-n c = omega (arith, length-set {A = ℤ}, c.loop-i.invariant.twice)
 
 pub loop-i-preserved : goal.loop-i-preserved
 loop-i-preserved c = let l = c.loop-i in backed-next l.invariant _ (to_z-of_z {w = w64} (sfits_of c.weight-1.given)) (omega arith)
