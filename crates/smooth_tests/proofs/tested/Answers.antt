@@ -62,7 +62,9 @@ module _ (xs ws : List ℤ) (len : ℕ) {k : KindFound} (e : k ≡ kind_of len) 
 -- ---- the needs
 
 pub returns-then-weights-cells : goal.returns-then-weights-cells
-returns-then-weights-cells c = let r = both_ways _ _ (misfits _ _ _ c.of_len.ensures.answer (omega arith) _ c.in-Found.is (λ e. omega arith)) in record { answer = r.0; numbers = r.1 }
+returns-then-weights-cells c = let xs = c.args.cells.now in let ws = c.args.weights.now in
+    let r = both_ways xs ws (misfits xs ws _ c.of_len.ensures.answer (omega arith) _ c.in-Found.is (λ (e : length ws ≡ length xs). omega arith)) in
+    record { answer = r.0; numbers = r.1 }
 
 pub returns-then-loud-cells : goal.returns-then-loud-cells
 returns-then-loud-cells c = let r = both_ways _ _ (loud-so _ _ _ c.of_len.ensures.answer (omega arith) _ c.in-Found.is (omega arith)
