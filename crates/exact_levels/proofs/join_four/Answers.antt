@@ -1,5 +1,4 @@
 -- `join_four` is right because sums and differences of cells up to FIRST fit, and make the lines of both levels (`four_written`).
-use borrow.Author.Rules.{rules}
 use mathlib.Core.Path.{◌≡◌}
 use mathlib.Core.List.{List}
 use Prim.Native.Nat.{ℕ, ◌*◌, ◌≤◌}

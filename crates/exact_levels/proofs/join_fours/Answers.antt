@@ -11,9 +11,9 @@ use Rattle.ints.specs.Cells.{cell}
 use Rattle.spectrum.proofs.Stages.{levels-within}
 use Rattle.turns.specs.Turn.{CHOSEN, cosine_at, sine_at}
 use Rattle.exact_pair.specs.Pair.{FIRST, Stands}
-use Rattle.exact_levels.specs.Ready.{FourReady, exact_levels}
+use Rattle.exact_levels.specs.Ready.{FourReady}
 use Rattle.levels.proofs.PartByPart.{part_inside}
-use Rattle.exact_levels.proofs.PartByPart.{Done, none_done, part_long, part_cell, part_small, done_next, all_done}
+use Rattle.exact_levels.proofs.PartByPart.{none_done, part_long, part_cell, part_small, done_next, all_done}
 use Rattle.exact_levels.proofs.join_fours.Invariants.{lines, FoursDone}
 use Rattle.exact_levels.proofs.join_fours.Goals as goal
 

@@ -17,7 +17,7 @@ use Rattle.residues.proofs.Congruent.{◌≈◌, ≈-is}
 use Rattle.residues.proofs.Residues.{same-residue, of_residues}
 use Rattle.turns.specs.Turn.{CHOSEN, cosine_at, sine_at}
 use Rattle.exact.proofs.Path.{level_lines_≈}
-use Rattle.exact_pair.specs.Pair.{FIRST, NoneAbove, Stands}
+use Rattle.exact_pair.specs.Pair.{FIRST, Stands}
 use Rattle.exact_levels.specs.Ready.{LaterReady, LevelReady, exact_joined, exact_levels}
 use Rattle.exact_levels.proofs.Powers.{power_product, power_divides, power_smaller}
 use Rattle.exact_levels.proofs.join_later_levels.Invariants.{Behind}

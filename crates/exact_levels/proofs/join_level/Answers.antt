@@ -17,7 +17,7 @@ use Rattle.turns.specs.Turn.{CHOSEN, cosine_at, sine_at}
 use Rattle.exact_pair.specs.Pair.{FIRST, NoneAbove, PairReady, Stands, cosine_step, exact_line}
 use Rattle.exact_levels.specs.Ready.{LevelReady, exact_joined}
 use Rattle.levels.proofs.PartByPart.{part_inside}
-use Rattle.exact_levels.proofs.PartByPart.{Done, none_done, part_long, part_cell, part_small, done_next, all_done}
+use Rattle.exact_levels.proofs.PartByPart.{none_done, part_long, part_cell, part_small, done_next, all_done}
 use Rattle.exact_levels.proofs.Powers.{power_product}
 use Rattle.exact_levels.proofs.join_level.Invariants.{PairsDone}
 use Rattle.exact_levels.proofs.join_level.Goals as goal

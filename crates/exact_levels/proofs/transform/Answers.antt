@@ -1,5 +1,4 @@
 -- `transform` is right because it permutes and runs all levels, and a permuted cell is a cell of the block.
-use borrow.Author.Rules.{rules}
 use mathlib.Core.Path.{◌≡◌, ◌∙◌, ap}
 use mathlib.Core.List.{List}
 use Prim.Native.Nat.{ℕ, ◌*◌, ◌^◌, ◌≤◌}
