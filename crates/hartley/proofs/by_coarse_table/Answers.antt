@@ -1,5 +1,4 @@
 -- `by_coarse_table` is right because the table has the entries that blocks of up to 64 cells need.
-use borrow.Author.Rules.{rules}
 use mathlib.Core.Path.{refl}
 use native.Mathlib.Omega.{arith}
 use Rattle.hartley.proofs.Tables.{levels-ready, coarse_table}

@@ -1,5 +1,4 @@
 -- `by_quarter_table` is right because the table has every entry that a block needs.
-use borrow.Author.Rules.{rules}
 use mathlib.Core.Path.{refl}
 use native.Mathlib.Omega.{arith}
 use Rattle.hartley.proofs.Tables.{levels-ready, whole-table}

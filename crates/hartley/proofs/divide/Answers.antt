@@ -2,7 +2,7 @@
 use borrow.Author.Rules.{rules, sfits_of}
 use mathlib.Core.Path.{◌≡◌, refl, sym, ◌∙◌, ap}
 use mathlib.Core.List.{List, [], ◌∷◌, map}
-use Prim.Native.Nat.{ℕ, zero, suc, ◌+◌, ◌-◌, ◌/◌, ◌^◌, ◌≤◌, ◌<◌}
+use Prim.Native.Nat.{ℕ, zero, suc, ◌+◌, ◌/◌, ◌^◌, ◌≤◌, ◌<◌}
 use native.Mathlib.Nat.{le_of_suc-le-suc}
 use native.Mathlib.Omega.{arith}
 use lib.IntN.{ℤ, pos, nat_abs}
@@ -16,7 +16,7 @@ use mir.Val.{SFits, to_z, of_z}
 use mir.ValLaws.{to_z_pos}
 use Rattle.ints.specs.Cells.{cell}
 use Rattle.ints.specs.Quotient.{Halved, rounded}
-use Rattle.ints.proofs.Filling.{Filled, filled_next}
+use Rattle.ints.proofs.Filling.{filled_next}
 use Rattle.ints.proofs.Fit.{fits, reads_back}
 use Rattle.spectrum.specs.Limits.{LARGEST_CELL}
 use Rattle.hartley.specs.Inner.{CanDivide}

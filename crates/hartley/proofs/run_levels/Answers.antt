@@ -1,5 +1,4 @@
 -- `run_levels` is right because either table serves, and the coarse one is taken for up to 2^6 cells alone.
-use borrow.Author.Rules.{rules}
 use native.Mathlib.Omega.{arith}
 use Rattle.hartley.proofs.run_levels.Goals as goal
 

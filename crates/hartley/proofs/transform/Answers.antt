@@ -1,5 +1,4 @@
 -- `transform` is right because it permutes and runs the levels, for which the magnitude law gives room.
-use borrow.Author.Rules.{rules}
 use mathlib.Core.Path.{◌≡◌, ◌∙◌, ap}
 use mathlib.Core.List.{List}
 use Prim.Native.Nat.{ℕ, ◌^◌}

@@ -1,5 +1,4 @@
 -- `transform_eight` is right because two exchanges permute eight cells (`eight_permuted`), and the levels follow.
-use borrow.Author.Rules.{rules}
 use mathlib.Core.Path.{◌≡◌, ◌∙◌, ap}
 use native.Mathlib.Omega.{arith}
 use Rattle.spectrum.specs.Levels.{permuted}

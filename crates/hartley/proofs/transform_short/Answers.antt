@@ -1,5 +1,4 @@
 -- `transform_short` is right because two cells stay where they are, of four the middle two change places, and their levels are the same at every scale.
-use borrow.Author.Rules.{rules}
 use mathlib.Core.Path.{◌≡◌, sym, ◌∙◌, ap}
 use mathlib.Core.List.{List}
 use Prim.Native.Nat.{ℕ, ◌^◌}
