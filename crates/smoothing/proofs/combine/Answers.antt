@@ -1,11 +1,8 @@
 -- `combine` is right because each round reads two lines that no round before has written, and leaves in each what both make.
-use mathlib.Core.Path.{◌≡◌, ap}
-use mathlib.Core.List.{List}
-use Prim.Native.Nat.{◌-◌, ◌≤◌, ◌<◌}
+use mathlib.Core.Path.{ap}
+use Prim.Native.Nat.{◌≤◌}
 use native.Mathlib.Omega.{arith}
-use lib.IntN.{ℤ}
 use lib.ListN.{length}
-use Rattle.smoothing.specs.Inner.{Spectra, lines_combined}
 use Rattle.smoothing.proofs.Combining.{Combining, lines_ready, first_facing, first-combined, next_facing, next_combined, all_combined}
 use Rattle.smoothing.proofs.combine.Goals as goal
 

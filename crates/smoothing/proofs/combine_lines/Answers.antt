@@ -1,5 +1,5 @@
 -- `combine_lines` is right because both lines are read before either is written, and folded lines have room for two products with numbers up to 2^30.
-use borrow.Author.Rules.{rules, sfits_of}
+use borrow.Author.Rules.{sfits_of}
 use mathlib.Core.Path.{◌≡◌, ◌∙◌, ap₂}
 use mathlib.Core.List.{List}
 use Prim.Native.Nat.{ℕ, ◌*◌}
@@ -105,12 +105,12 @@ overflow_mul-x c =
     let E : ℤ = to_z w64 (of_z w64 c.halved-even.result) in
     let O : ℤ = to_z w64 (of_z w64 c.halved-odd.result) in
     let line-held : Held x y even odd (X) (Y) (E) (O) = record {
-  factors = line_factors c.requires;
-  x-held = x-told;
-  y-held = y-told;
-  even-held = even-told;
-  odd-held = odd-told;
-} in
+      factors = line_factors c.requires;
+      x-held = x-told;
+      y-held = y-told;
+      even-held = even-told;
+      odd-held = odd-told;
+    } in
     first-product line-held
 
 pub overflow_mul-y : goal.overflow_mul-y
@@ -129,12 +129,12 @@ overflow_mul-y c =
     let E : ℤ = to_z w64 (of_z w64 c.halved-even.result) in
     let O : ℤ = to_z w64 (of_z w64 c.halved-odd.result) in
     let line-held : Held x y even odd (X) (Y) (E) (O) = record {
-  factors = line_factors c.requires;
-  x-held = x-told;
-  y-held = y-told;
-  even-held = even-told;
-  odd-held = odd-told;
-} in
+      factors = line_factors c.requires;
+      x-held = x-told;
+      y-held = y-told;
+      even-held = even-told;
+      odd-held = odd-told;
+    } in
     second-product line-held
 
 pub overflow_add-x : goal.overflow_add-x
@@ -153,12 +153,12 @@ overflow_add-x c =
     let E : ℤ = to_z w64 (of_z w64 c.halved-even.result) in
     let O : ℤ = to_z w64 (of_z w64 c.halved-odd.result) in
     let line-held : Held x y even odd (X) (Y) (E) (O) = record {
-  factors = line_factors c.requires;
-  x-held = x-told;
-  y-held = y-told;
-  even-held = even-told;
-  odd-held = odd-told;
-} in
+      factors = line_factors c.requires;
+      x-held = x-told;
+      y-held = y-told;
+      even-held = even-told;
+      odd-held = odd-told;
+    } in
     added line-held
 
 pub overflow_mul-y-2 : goal.overflow_mul-y-2
@@ -177,19 +177,19 @@ overflow_mul-y-2 c =
     let E : ℤ = to_z w64 (of_z w64 c.halved-even.result) in
     let O : ℤ = to_z w64 (of_z w64 c.halved-odd.result) in
     let line-held : Held x y even odd (X) (Y) (E) (O) = record {
-  factors = line_factors c.requires;
-  x-held = x-told;
-  y-held = y-told;
-  even-held = even-told;
-  odd-held = odd-told;
-} in
+      factors = line_factors c.requires;
+      x-held = x-told;
+      y-held = y-told;
+      even-held = even-told;
+      odd-held = odd-told;
+    } in
     let opposite-held : Held y x even odd (Y) (X) (E) (O) = let H = line-held in record {
-  factors = opposite_factors c.requires;
-  x-held = H.y-held;
-  y-held = H.x-held;
-  even-held = H.even-held;
-  odd-held = H.odd-held;
-} in
+      factors = opposite_factors c.requires;
+      x-held = H.y-held;
+      y-held = H.x-held;
+      even-held = H.even-held;
+      odd-held = H.odd-held;
+    } in
     first-product opposite-held
 
 pub overflow_mul-x-2 : goal.overflow_mul-x-2
@@ -208,19 +208,19 @@ overflow_mul-x-2 c =
     let E : ℤ = to_z w64 (of_z w64 c.halved-even.result) in
     let O : ℤ = to_z w64 (of_z w64 c.halved-odd.result) in
     let line-held : Held x y even odd (X) (Y) (E) (O) = record {
-  factors = line_factors c.requires;
-  x-held = x-told;
-  y-held = y-told;
-  even-held = even-told;
-  odd-held = odd-told;
-} in
+      factors = line_factors c.requires;
+      x-held = x-told;
+      y-held = y-told;
+      even-held = even-told;
+      odd-held = odd-told;
+    } in
     let opposite-held : Held y x even odd (Y) (X) (E) (O) = let H = line-held in record {
-  factors = opposite_factors c.requires;
-  x-held = H.y-held;
-  y-held = H.x-held;
-  even-held = H.even-held;
-  odd-held = H.odd-held;
-} in
+      factors = opposite_factors c.requires;
+      x-held = H.y-held;
+      y-held = H.x-held;
+      even-held = H.even-held;
+      odd-held = H.odd-held;
+    } in
     second-product opposite-held
 
 pub overflow_sub-y : goal.overflow_sub-y
@@ -239,19 +239,19 @@ overflow_sub-y c =
     let E : ℤ = to_z w64 (of_z w64 c.halved-even.result) in
     let O : ℤ = to_z w64 (of_z w64 c.halved-odd.result) in
     let line-held : Held x y even odd (X) (Y) (E) (O) = record {
-  factors = line_factors c.requires;
-  x-held = x-told;
-  y-held = y-told;
-  even-held = even-told;
-  odd-held = odd-told;
-} in
+      factors = line_factors c.requires;
+      x-held = x-told;
+      y-held = y-told;
+      even-held = even-told;
+      odd-held = odd-told;
+    } in
     let opposite-held : Held y x even odd (Y) (X) (E) (O) = let H = line-held in record {
-  factors = opposite_factors c.requires;
-  x-held = H.y-held;
-  y-held = H.x-held;
-  even-held = H.even-held;
-  odd-held = H.odd-held;
-} in
+      factors = opposite_factors c.requires;
+      x-held = H.y-held;
+      y-held = H.x-held;
+      even-held = H.even-held;
+      odd-held = H.odd-held;
+    } in
     subtracted opposite-held
 
 pub returns : goal.returns
@@ -270,19 +270,19 @@ returns c =
     let E : ℤ = to_z w64 (of_z w64 c.halved-even.result) in
     let O : ℤ = to_z w64 (of_z w64 c.halved-odd.result) in
     let line-held : Held x y even odd (X) (Y) (E) (O) = record {
-  factors = line_factors c.requires;
-  x-held = x-told;
-  y-held = y-told;
-  even-held = even-told;
-  odd-held = odd-told;
-} in
+      factors = line_factors c.requires;
+      x-held = x-told;
+      y-held = y-told;
+      even-held = even-told;
+      odd-held = odd-told;
+    } in
     let opposite-held : Held y x even odd (Y) (X) (E) (O) = let H = line-held in record {
-  factors = opposite_factors c.requires;
-  x-held = H.y-held;
-  y-held = H.x-held;
-  even-held = H.even-held;
-  odd-held = H.odd-held;
-} in
-    ap₂ (λ (y : ℤ). set (set c.args.cells.now c.args.v y) c.args.opposite z)
+      factors = opposite_factors c.requires;
+      x-held = H.y-held;
+      y-held = H.x-held;
+      even-held = H.even-held;
+      odd-held = H.odd-held;
+    } in
+    ap₂ (λ (y z : ℤ). set (set c.args.cells.now c.args.v y) c.args.opposite z)
     (to_z-of_z {w = w64} (sfits_of c.folded.type_inv) ∙ (rw (added-back line-held) at c.folded.ensures))
     (to_z-of_z {w = w64} (sfits_of c.folded-2.type_inv) ∙ (rw (subtracted-back opposite-held) at c.folded-2.ensures))

@@ -1,9 +1,8 @@
 -- `restore` is right because each round restores a cell that no round before has written.
-use borrow.Author.Rules.{rules, sfits_of}
+use borrow.Author.Rules.{sfits_of}
 use mathlib.Core.Path.{◌≡◌, ◌∙◌}
-use Prim.Native.Nat.{◌*◌, ◌-◌}
+use Prim.Native.Nat.{◌*◌}
 use native.Mathlib.Omega.{arith}
-use lib.ListN.{length}
 use mir.Facts.{to_z-of_z}
 use mir.Syntax.{w64}
 use mir.Val.{to_z, of_z}
@@ -11,7 +10,7 @@ use Rattle.ints.specs.Cells.{cell}
 use Rattle.ints.proofs.Fit.{reads_back}
 use Rattle.exact_pair.specs.Pair.{FIRST}
 use Rattle.smoothing.specs.Inner.{LineRoom}
-use Rattle.smoothing.proofs.Restoring.{Restoring, none_restored, next_restored, all_restored}
+use Rattle.smoothing.proofs.Restoring.{none_restored, next_restored, all_restored}
 use Rattle.smoothing.proofs.restore.Goals as goal
 
 pub loop-t-init : goal.loop-t-init

@@ -1,5 +1,4 @@
 -- `smooth_in` is right because each step of the path has what it asks for in what the step before it leaves.
-use borrow.Author.Rules.{rules}
 use mathlib.Core.Path.{sym, ◌∙◌}
 use native.Mathlib.Omega.{arith}
 use Rattle.smoothing.proofs.BySpectra.{quarter_long, cells_ready, weights_ready, spectra_ready, combined-ready, restore_ready, path_taken}
@@ -8,7 +7,7 @@ use Rattle.smoothing.proofs.smooth_in.Goals as goal
 -- ---- the calls, each from the next
 
 pub fill_quarter-requires : goal.fill_quarter-requires
-fill_quarter-requires c = let p = c.requires in (omega (arith, p.0.1.most), p.1.1 ∙ quarter_long p.0.1 p.0.0)
+fill_quarter-requires c = let p = c.requires in (omega (arith, p.le_p.1.most), p.spectrum_len.1 ∙ quarter_long p.le_p.1 p.le_p.0)
 
 pub copy-requires : goal.copy-requires
 copy-requires c = c.requires.spectrum_len.0 ∙ c.requires.le_p.1.long ∙ sym c.requires.le_p.1.as_long

@@ -22,8 +22,8 @@ pub fill_sums-requires : goal.fill_sums-requires
 fill_sums-requires c =
     let taken : let a = c.args in tested_smoothing a.cells.now a.weights.now ≡ Taken c.in-Taken.kind = sym c.tested.ensures.answer ∙ c.in-Taken.is in
     let p = c.requires in record {
-        samples_len_bound = (p.0, short (accepted _ _ _ taken));
-        turned_len = (p.1, p.2);
+      samples_len_bound = (p.0, short (accepted _ _ _ taken));
+      turned_len = (p.1, p.2);
     }
 
 pub returns-in-Refused : goal.returns-in-Refused

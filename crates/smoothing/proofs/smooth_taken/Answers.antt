@@ -1,5 +1,4 @@
 -- `smooth_taken` is right because both ways give the plain sums: a short block has room for them, and for any block the path by way of the spectra is exact.
-use borrow.Author.Rules.{rules}
 use mathlib.Core.List.{List}
 use Prim.Native.Nat.{ℕ, ◌≤◌, ◌<◌}
 use native.Mathlib.Decide.{dec_lt}
