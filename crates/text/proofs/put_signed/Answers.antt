@@ -56,8 +56,8 @@ returns-then-has_room c =
     let below : Less c.args.x (pos 0) = let t = rw (to_z-of_z c.ranges.x) at c.if-x-lt0.true in omega comparisons in
     let room : let a = c.args in a.at + (c.count_digits-digits.result + 1) + 1 ≤ length a.out.now = c.has_room.ensures.0 c.if-has_room.true in
     record {
-        put = λ fits. with-sign c.args.x _ size _ _ _ below (omega (arith, room)) (omega arith) (omega arith) (omega arith) c.put_field.ensures;
-        kept = λ none. absurd (omega (arith, room, below_length c.args.x _ size below, c.count_digits-digits.ensures));
+      put = λ fits. with-sign c.args.x _ size _ _ _ below (omega (arith, room)) (omega arith) (omega arith) (omega arith) c.put_field.ensures;
+      kept = λ none. absurd (omega (arith, room, below_length c.args.x _ size below, c.count_digits-digits.ensures));
     }
 
 pub returns-else-has_room : goal.returns-else-has_room
@@ -65,8 +65,8 @@ returns-else-has_room c =
     let size : c.magnitude-size.result ≡ nat_abs c.args.x = rw (to_z-of_z c.ranges.x) at c.magnitude-size.ensures in
     let below : Less c.args.x (pos 0) = let t = rw (to_z-of_z c.ranges.x) at c.if-x-lt0.true in omega comparisons in
     record {
-        put = λ fits. absurd (true≢false (sym (c.has_room.ensures.1 (omega (arith, below_length c.args.x _ size below, c.count_digits-digits.ensures))) ∙ c.if-has_room.false));
-        kept = λ none. (refl, refl);
+      put = λ fits. absurd (true≢false (sym (c.has_room.ensures.1 (omega (arith, below_length c.args.x _ size below, c.count_digits-digits.ensures))) ∙ c.if-has_room.false));
+      kept = λ none. (refl, refl);
     }
 
 pub returns-else-x-lt0 : goal.returns-else-x-lt0
@@ -75,6 +75,6 @@ returns-else-x-lt0 c =
     let from_zero : AtMost (pos 0) c.args.x = let t = rw (to_z-of_z c.ranges.x) at c.if-x-lt0.false in omega comparisons in
     let x = c.args.x in
     let same = from-zero-length x _ size from_zero in record {
-        put = λ fits. without_sign x _ size from_zero (c.put_decimal.ensures.put (omega (arith, same)));
-        kept = λ none. c.put_decimal.ensures.kept (omega (arith, same));
+      put = λ fits. without_sign x _ size from_zero (c.put_decimal.ensures.put (omega (arith, same)));
+      kept = λ none. c.put_decimal.ensures.kept (omega (arith, same));
     }
