@@ -3,4 +3,4 @@ use Rattle.std.proofs.Common.{sym, length-take-le, rules}
 use Rattle.worked_blocks.proofs.forward_of_zeros.Goals as goal
 
 pub slice_bounds-forward-end : goal.slice_bounds-forward-end
-slice_bounds-forward-end c = sym (length-take-le _ _ (search rules))
+slice_bounds-forward-end g c = sym (length-take-le _ _ (search rules))

@@ -3,4 +3,4 @@ use Rattle.std.proofs.Common.{sym, length-take-le, rules}
 use Rattle.worked_blocks.proofs.power_of.Goals as goal
 
 pub slice_bounds-power_into-end : goal.slice_bounds-power_into-end
-slice_bounds-power_into-end c = sym (length-take-le _ _ (search rules))
+slice_bounds-power_into-end g c = sym (length-take-le _ _ (search rules))

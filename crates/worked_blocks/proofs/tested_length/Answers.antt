@@ -3,4 +3,4 @@ use Rattle.std.proofs.Common.{sym, length-take-le, rules}
 use Rattle.worked_blocks.proofs.tested_length.Goals as goal
 
 pub slice_bounds-tested_samples-end : goal.slice_bounds-tested_samples-end
-slice_bounds-tested_samples-end c = sym (length-take-le _ _ (search rules))
+slice_bounds-tested_samples-end g c = sym (length-take-le _ _ (search rules))

@@ -17,4 +17,4 @@ within : (head : Head) (cells : List ℤ) (room used : ℕ) {answer : SaveAnswer
 within head cells room used said told = let t = told_saved head cells room used (sym said ∙ told) in omega (arith, t.1.0, t.1.1.fits)
 
 pub returns-in-Saved : goal.returns-in-Saved
-returns-in-Saved c = omega (arith, within _ _ _ _ c.in-Saved.is c.save-answer.ensures.answer)
+returns-in-Saved g c = omega (arith, within _ _ _ _ c.in-Saved.is c.save-answer.ensures.answer)

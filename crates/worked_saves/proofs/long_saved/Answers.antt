@@ -5,7 +5,7 @@ use lib.Seq.{length-take-le}
 use Rattle.worked_saves.proofs.long_saved.Goals as goal
 
 pub slice_bounds-long_saved_into-end : goal.slice_bounds-long_saved_into-end
-slice_bounds-long_saved_into-end c = sym (length-take-le _ _ (search rules))
+slice_bounds-long_saved_into-end g c = sym (length-take-le _ _ (search rules))
 
 pub slice_bounds-long_saved_into-end-2 : goal.slice_bounds-long_saved_into-end-2
-slice_bounds-long_saved_into-end-2 c = sym (length-take-le _ _ (search rules))
+slice_bounds-long_saved_into-end-2 g c = sym (length-take-le _ _ (search rules))

@@ -5,4 +5,4 @@ use lib.Seq.{length-take-le}
 use Rattle.worked_saves.proofs.long_saved_into.Goals as goal
 
 pub slice_bounds-fetched-end-then-used-gt0 : goal.slice_bounds-fetched-end-then-used-gt0
-slice_bounds-fetched-end-then-used-gt0 c = sym (length-take-le _ _ (search rules))
+slice_bounds-fetched-end-then-used-gt0 g c = sym (length-take-le _ _ (search rules))

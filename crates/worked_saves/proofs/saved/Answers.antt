@@ -5,4 +5,4 @@ use lib.Seq.{length-take-le}
 use Rattle.worked_saves.proofs.saved.Goals as goal
 
 pub slice_bounds-saved_into-end : goal.slice_bounds-saved_into-end
-slice_bounds-saved_into-end c = sym (length-take-le _ _ (search rules))
+slice_bounds-saved_into-end g c = sym (length-take-le _ _ (search rules))

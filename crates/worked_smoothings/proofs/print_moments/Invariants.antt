@@ -4,7 +4,7 @@ use lib.ListN.{length}
 use Rattle.worked_smoothings.proofs.print_moments.Given as goal
 
 abbrev pub invariant-loop-t : goal.invariant-loop-t
-invariant-loop-t l = t ≤ length l.cells
+invariant-loop-t g l = l.t ≤ length l.cells
 
 abbrev pub decreases-loop-t : goal.decreases-loop-t
-decreases-loop-t l = length l.cells - t
+decreases-loop-t g l = length l.cells - l.t

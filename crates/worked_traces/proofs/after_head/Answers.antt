@@ -5,7 +5,7 @@ use lib.Seq.{length-take-le}
 use Rattle.worked_traces.proofs.after_head.Goals as goal
 
 pub slice_bounds-checked_as-end : goal.slice_bounds-checked_as-end
-slice_bounds-checked_as-end c = sym (length-take-le _ _ (search rules))
+slice_bounds-checked_as-end g c = sym (length-take-le _ _ (search rules))
 
 pub slice_bounds-checked_as-end-2 : goal.slice_bounds-checked_as-end-2
-slice_bounds-checked_as-end-2 c = sym (length-take-le _ _ (search rules))
+slice_bounds-checked_as-end-2 g c = sym (length-take-le _ _ (search rules))

@@ -5,4 +5,4 @@ use lib.Seq.{length-take-le}
 use Rattle.worked_traces.proofs.checked.Goals as goal
 
 pub slice_bounds-checked_as-end : goal.slice_bounds-checked_as-end
-slice_bounds-checked_as-end c = sym (length-take-le _ _ (search rules))
+slice_bounds-checked_as-end g c = sym (length-take-le _ _ (search rules))

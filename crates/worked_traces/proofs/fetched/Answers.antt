@@ -5,7 +5,7 @@ use lib.Seq.{length-take-le}
 use Rattle.worked_traces.proofs.fetched.Goals as goal
 
 pub slice_bounds-fetched_into-end : goal.slice_bounds-fetched_into-end
-slice_bounds-fetched_into-end c = sym (length-take-le _ _ (search rules))
+slice_bounds-fetched_into-end g c = sym (length-take-le _ _ (search rules))
 
 pub slice_bounds-fetched_into-end-3 : goal.slice_bounds-fetched_into-end-3
-slice_bounds-fetched_into-end-3 c = sym (length-take-le _ _ (search rules))
+slice_bounds-fetched_into-end-3 g c = sym (length-take-le _ _ (search rules))

@@ -5,4 +5,4 @@ use lib.Seq.{length-take-le}
 use Rattle.worked_traces.proofs.fetched_record.Goals as goal
 
 pub slice_bounds-fetched_record_into-end : goal.slice_bounds-fetched_record_into-end
-slice_bounds-fetched_record_into-end c = sym (length-take-le _ _ (search rules))
+slice_bounds-fetched_record_into-end g c = sym (length-take-le _ _ (search rules))
