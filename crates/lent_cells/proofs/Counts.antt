@@ -23,7 +23,7 @@ use Rattle.block.proofs.Refused.{kind-least, kind-largest, tested-length, tested
 use Rattle.little_endian.specs.Reading.{Within, signeds}
 use Rattle.little_endian.proofs.Signed.{length-signeds}
 use Rattle.cell_bytes.specs.CellBytes.{CELL, cell_count, cells_in, fit_count}
-use Rattle.cell_bytes.proofs.CellsRead.{Reads, cells_back, fit_count, no_cells, reads, same, too_many}
+use Rattle.cell_bytes.proofs.CellsRead.{Reads, cells_back, fit_count_lem, no_cells, reads, same, too_many}
 use Rattle.spectrum.specs.Limits.{LARGEST_CELL}
 use Rattle.lent_cells.specs.BytesLeft.{bytes_left}
 
@@ -76,7 +76,7 @@ counts_spelt outputs = map (λ bytes. length (cells_in bytes)) outputs
 same-misfit : (wanted : ℕ) → 1 ≤ wanted → (outputs : List (List ℕ)) → misfit wanted (counts_read wanted outputs) ≡ misfit wanted (counts_spelt outputs)
 unfolding misfit
 same-misfit wanted some [] = refl
-same-misfit wanted some (bytes ∷ more) = rw (fit_count wanted some bytes, same-misfit wanted some more) refl
+same-misfit wanted some (bytes ∷ more) = rw (fit_count_lem wanted some bytes, same-misfit wanted some more) refl
 
 module _ (low high : ℤ) where
   -- a count of bytes that is no multiple of eight is refusal 2, where 1 is passed

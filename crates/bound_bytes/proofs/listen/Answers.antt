@@ -2,7 +2,7 @@
 use borrow.Author.Rules.{sfits_of}
 use mathlib.Core.Path.{◌≡◌, refl, ◌∙◌}
 use mathlib.Core.List.{List}
-use Prim.Native.Nat.{ℕ, ◌-◌, ◌<◌}
+use Prim.Native.Nat.{ℕ, ◌<◌}
 use native.Mathlib.Omega.{arith}
 use lib.ListN.{length}
 use mir.Facts.{to_z-of_z}
@@ -11,7 +11,7 @@ use mir.Val.{to_z, of_z}
 use Rattle.ints.specs.Cells.{cell}
 use Rattle.cell_bytes.specs.CellBytes.{cells_in}
 use Rattle.cell_bytes.proofs.CellsRead.{cell_room, cell-spelled}
-use Rattle.distance.proofs.Listening.{Going, going_all, going_loud, going_none, going_on}
+use Rattle.distance.proofs.Listening.{going_all, going_loud, going_none, going_on}
 use Rattle.bound_bytes.proofs.listen.Goals as goal
 
 pub loop-i-init : goal.loop-i-init

@@ -1,5 +1,4 @@
 -- `packed_scaled` is right because each case is that of the definition.
-use borrow.Author.Rules.{rules}
 use mathlib.Core.Path.{sym, ◌∙◌, ap}
 use native.Mathlib.Omega.{arith}
 use Rattle.packing.specs.Packing.{packed_scaled}
