@@ -1,12 +1,8 @@
 -- `look_below` is right because no line at a smaller distance reaches the level, and there is no line above at this one.
 use mathlib.Core.Path.{sym}
 use mathlib.Core.Bool.{true, false}
-use Prim.Native.Nat.{◌+◌, ◌-◌, ◌≤◌}
 use native.Mathlib.Omega.{arith}
-use lib.ListN.{length}
 use mir.Facts.{to_z-of_z}
-use mir.Syntax.{w64}
-use mir.Val.{to_z}
 use Rattle.search.specs.Inner.{NoneWithin}
 use Rattle.search.proofs.Outwards.{at_line, below-found, nearest-is, none_left, none-next}
 use Rattle.search.proofs.look_below.Goals as goal

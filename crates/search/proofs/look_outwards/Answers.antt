@@ -2,11 +2,9 @@
 use mathlib.Core.Path.{sym}
 use mathlib.Core.Bool.{true, false}
 use mathlib.Core.Logic.{⊎_elim}
-use Prim.Native.Nat.{ℕ, ◌+◌, ◌-◌, ◌≤◌, ◌<◌}
+use Prim.Native.Nat.{ℕ, ◌≤◌, ◌<◌}
 use native.Mathlib.Omega.{arith}
 use mir.Facts.{to_z-of_z}
-use mir.Syntax.{w64}
-use mir.Val.{to_z}
 use Rattle.search.specs.Inner.{NoneWithin, Smaller}
 use Rattle.search.proofs.Outwards.{above-found, at_line, below-found, here_found, nearest-is, none_here, none-next}
 use Rattle.search.proofs.look_outwards.Goals as goal

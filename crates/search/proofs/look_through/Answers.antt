@@ -2,11 +2,11 @@
 use mir.Syntax.{w64}
 use borrow.Author.Rules.{sfits_of}
 use mathlib.Core.Path.{◌≡◌, ◌∙◌, subst}
-use Prim.Native.Nat.{ℕ, ◌+◌, ◌-◌, ◌≤◌}
+use Prim.Native.Nat.{ℕ, ◌-◌}
 use native.Mathlib.Omega.{arith}
 use mir.Facts.{to_z-of_z}
 use Rattle.search.specs.Search.{Strongest}
-use Rattle.search.proofs.Band.{Peaked, peak_first, peak_four, peak_next}
+use Rattle.search.proofs.Band.{peak_first, peak_four, peak_next}
 use Rattle.search.proofs.look_through.Goals as goal
 
 pub loop-next-init : goal.loop-next-init

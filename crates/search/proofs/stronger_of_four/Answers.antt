@@ -1,7 +1,6 @@
 -- `stronger_of_four` is right because a peak that reaches the largest of four powers reaches each; otherwise it looks at each in turn.
 use borrow.Author.Rules.{sfits_of}
 use mathlib.Core.Path.{◌≡◌, sym, ◌∙◌}
-use native.Mathlib.Omega.{arith}
 use mir.Facts.{to_z-of_z}
 use mir.Syntax.{w64}
 use mir.Val.{to_z, of_z}

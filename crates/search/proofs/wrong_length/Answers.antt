@@ -1,5 +1,4 @@
 -- `wrong_length` is right because a list of powers has between one cell and as many as a block, and then `of_len` decides.
-use borrow.Author.Rules.{rules}
 use mathlib.Core.Path.{sym, ◌∙◌, ap}
 use native.Mathlib.Omega.{arith}
 use Rattle.search.specs.SearchTests.{no_kind}
