@@ -1,9 +1,7 @@
 -- `parts` is right because `parts_in` is, in the fronts of the rooms.
-use borrow.Author.Rules.{rules}
 use mathlib.Core.Path.{◌≡◌, sym, ◌∙◌, ap}
 use Prim.Native.Nat.{ℕ, ◌+◌, ◌/◌}
 use native.Mathlib.Omega.{arith}
-use lib.ListN.{length}
 use lib.Seq.{length-take-le}
 use Rattle.cell_bytes.specs.CellBytes.{fit_count}
 use Rattle.line_bytes.proofs.parts.Goals as goal
@@ -29,9 +27,9 @@ slice_bounds-parts_in-end-then-len-le-MIDDLE-2 c = sym (length-take-le _ _ (omeg
 
 pub parts_in-requires : goal.parts_in-requires
 parts_in-requires c = record {
-        cells_len = length-take-le _ _ (omega arith) ∙ c.cell_count-len.ensures.0;
-        reals_len = (length-take-le _ _ (omega (arith, c.fit_count-real_len.ensures.1)) ∙ counted _ _ _ _ c.fit_count-real_len.ensures.0 (length-take-le _ _ (omega arith)), length-take-le _ _ (omega (arith, c.fit_count-imaginary_len.ensures.1)) ∙ counted _ _ _ _ c.fit_count-imaginary_len.ensures.0 (length-take-le _ _ (omega arith)));
-    }
+  cells_len = length-take-le _ _ (omega arith) ∙ c.cell_count-len.ensures.0;
+  reals_len = (length-take-le _ _ (omega (arith, c.fit_count-real_len.ensures.1)) ∙ counted _ _ _ _ c.fit_count-real_len.ensures.0 (length-take-le _ _ (omega arith)), length-take-le _ _ (omega (arith, c.fit_count-imaginary_len.ensures.1)) ∙ counted _ _ _ _ c.fit_count-imaginary_len.ensures.0 (length-take-le _ _ (omega arith)));
+}
 
 pub slice_bounds-parts_in-end-2 : goal.slice_bounds-parts_in-end-2
 slice_bounds-parts_in-end-2 c = sym (length-take-le _ _ (omega arith))
@@ -50,6 +48,6 @@ slice_bounds-parts_in-end-4 c = sym (length-take-le _ _ (omega (arith, c.fit_cou
 
 pub parts_in-requires-2 : goal.parts_in-requires-2
 parts_in-requires-2 c = record {
-        cells_len = length-take-le _ _ (omega arith) ∙ c.cell_count-len.ensures.0;
-        reals_len = (length-take-le _ _ (omega (arith, c.fit_count-real_len.ensures.1)) ∙ counted _ _ _ _ c.fit_count-real_len.ensures.0 (length-take-le _ _ (omega arith)), length-take-le _ _ (omega (arith, c.fit_count-imaginary_len.ensures.1)) ∙ counted _ _ _ _ c.fit_count-imaginary_len.ensures.0 (length-take-le _ _ (omega arith)));
-    }
+  cells_len = length-take-le _ _ (omega arith) ∙ c.cell_count-len.ensures.0;
+  reals_len = (length-take-le _ _ (omega (arith, c.fit_count-real_len.ensures.1)) ∙ counted _ _ _ _ c.fit_count-real_len.ensures.0 (length-take-le _ _ (omega arith)), length-take-le _ _ (omega (arith, c.fit_count-imaginary_len.ensures.1)) ∙ counted _ _ _ _ c.fit_count-imaginary_len.ensures.0 (length-take-le _ _ (omega arith)));
+}

@@ -1,6 +1,5 @@
 -- `parts_in` is right because the cells that it reads are those that the bytes spell, or are refused as those would be, and so are the cells of the two
 -- outputs; `parts` does the rest.
-use borrow.Author.Rules.{rules}
 use mathlib.Core.Path.{◌≡◌, refl, sym, ◌∙◌, ap}
 use mathlib.Core.List.{List}
 use Prim.Native.Nat.{ℕ, ◌+◌, ◌*◌, ◌/◌}
@@ -18,7 +17,7 @@ returns c =
     let spectrum : List ℕ = c.args.spectrum.now in
     let given : List ℤ = c.decode.new.cells in
     let read : given ≡ cells_read (CELL * LARGEST) spectrum = c.decode.ensures ∙ cells_decoded LARGEST spectrum _ c.requires.cells_len c.args.cells.now refl in
-    let counted : (m bytes : ℕ) → m ≡ fit_count (length c.args.cells.now / 2 + 1) bytes → m ≡ fit_count (length given / 2 + 1) bytes = λ m. λ bytes. λ e. e ∙ ap (λ (n : ℕ). fit_count (n / 2 + 1) bytes) (sym c.decode.auto.1.0) in
-    let e = c.parts.ensures in let k = c.parts.auto.1 in let a = c.args in
+    let counted : (m bytes : ℕ) → m ≡ fit_count (length c.args.cells.now / 2 + 1) bytes → m ≡ fit_count (length given / 2 + 1) bytes = λ m. λ bytes. λ e. e ∙ ap (λ (n : ℕ). fit_count (n / 2 + 1) bytes) (sym c.decode.auto.cells) in
+    let e = c.parts.ensures in let k = c.parts.auto in let a = c.args in
     answered_parts spectrum _ refl given read a.real.now a.imaginary.now a.reals.now a.imaginaries.now (counted _ _ c.requires.reals_len.0) (counted _ _ c.requires.reals_len.1)
-    (c.packed-answer.ensures ∙ ap packed e.0) _ _ e.1.1.0 e.1.1.1 k.0 k.1.0 c.write_back.ensures c.write_back-2.ensures
+    (c.packed-answer.ensures ∙ ap packed e.answer) _ _ e.real e.imaginary k.real k.imaginary c.write_back.ensures c.write_back-2.ensures

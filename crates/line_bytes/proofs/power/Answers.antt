@@ -1,9 +1,7 @@
 -- `power` is right because `power_in` is, in the fronts of the rooms.
-use borrow.Author.Rules.{rules}
 use mathlib.Core.Path.{◌≡◌, sym, ◌∙◌, ap}
 use Prim.Native.Nat.{ℕ, ◌+◌, ◌/◌}
 use native.Mathlib.Omega.{arith}
-use lib.ListN.{length}
 use lib.Seq.{length-take-le}
 use Rattle.cell_bytes.specs.CellBytes.{fit_count}
 use Rattle.line_bytes.proofs.power.Goals as goal
@@ -23,9 +21,9 @@ slice_bounds-power_in-end-then-len-le-SMALL c = sym (length-take-le _ _ (omega (
 
 pub power_in-requires : goal.power_in-requires
 power_in-requires c = record {
-        cells_len = length-take-le _ _ (omega arith) ∙ c.cell_count-len.ensures.0;
-        values_len = length-take-le _ _ (omega (arith, c.fit_count-lines.ensures.1)) ∙ counted _ _ _ _ c.fit_count-lines.ensures.0 (length-take-le _ _ (omega arith));
-    }
+  cells_len = length-take-le _ _ (omega arith) ∙ c.cell_count-len.ensures.0;
+  values_len = length-take-le _ _ (omega (arith, c.fit_count-lines.ensures.1)) ∙ counted _ _ _ _ c.fit_count-lines.ensures.0 (length-take-le _ _ (omega arith));
+}
 
 pub slice_bounds-power_in-end-then-len-le-MIDDLE : goal.slice_bounds-power_in-end-then-len-le-MIDDLE
 slice_bounds-power_in-end-then-len-le-MIDDLE c = sym (length-take-le _ _ (omega arith))
@@ -38,9 +36,9 @@ slice_bounds-power_in-end-then-len-le-MIDDLE-2 c = sym (length-take-le _ _ (omeg
 
 pub power_in-requires-then-len-le-MIDDLE : goal.power_in-requires-then-len-le-MIDDLE
 power_in-requires-then-len-le-MIDDLE c = record {
-        cells_len = length-take-le _ _ (omega arith) ∙ c.cell_count-len.ensures.0;
-        values_len = length-take-le _ _ (omega (arith, c.fit_count-lines.ensures.1)) ∙ counted _ _ _ _ c.fit_count-lines.ensures.0 (length-take-le _ _ (omega arith));
-    }
+  cells_len = length-take-le _ _ (omega arith) ∙ c.cell_count-len.ensures.0;
+  values_len = length-take-le _ _ (omega (arith, c.fit_count-lines.ensures.1)) ∙ counted _ _ _ _ c.fit_count-lines.ensures.0 (length-take-le _ _ (omega arith));
+}
 
 pub slice_bounds-power_in-end-2 : goal.slice_bounds-power_in-end-2
 slice_bounds-power_in-end-2 c = sym (length-take-le _ _ (omega arith))
@@ -53,6 +51,6 @@ slice_bounds-power_in-end-3 c = sym (length-take-le _ _ (omega (arith, c.fit_cou
 
 pub power_in-requires-2 : goal.power_in-requires-2
 power_in-requires-2 c = record {
-        cells_len = length-take-le _ _ (omega arith) ∙ c.cell_count-len.ensures.0;
-        values_len = length-take-le _ _ (omega (arith, c.fit_count-lines.ensures.1)) ∙ counted _ _ _ _ c.fit_count-lines.ensures.0 (length-take-le _ _ (omega arith));
-    }
+  cells_len = length-take-le _ _ (omega arith) ∙ c.cell_count-len.ensures.0;
+  values_len = length-take-le _ _ (omega (arith, c.fit_count-lines.ensures.1)) ∙ counted _ _ _ _ c.fit_count-lines.ensures.0 (length-take-le _ _ (omega arith));
+}

@@ -1,6 +1,5 @@
 -- `power_in` is right because the cells that it reads are those that the bytes spell, or are refused as those would be, and so are the cells of the
 -- output; `power` does the rest.
-use borrow.Author.Rules.{rules}
 use mathlib.Core.Path.{◌≡◌, refl, sym, ◌∙◌, ap}
 use mathlib.Core.List.{List}
 use Prim.Native.Nat.{ℕ, ◌+◌, ◌*◌, ◌/◌}
@@ -18,6 +17,6 @@ returns c =
     let spectrum : List ℕ = c.args.spectrum.now in
     let given : List ℤ = c.decode.new.cells in
     let read : given ≡ cells_read (CELL * LARGEST) spectrum = c.decode.ensures ∙ cells_decoded LARGEST spectrum _ c.requires.cells_len c.args.cells.now refl in
-    let counted : (m bytes : ℕ) → m ≡ fit_count (length c.args.cells.now / 2 + 1) bytes → m ≡ fit_count (length given / 2 + 1) bytes = λ m. λ bytes. λ e. e ∙ ap (λ (n : ℕ). fit_count (n / 2 + 1) bytes) (sym c.decode.auto.1.0) in
+    let counted : (m bytes : ℕ) → m ≡ fit_count (length c.args.cells.now / 2 + 1) bytes → m ≡ fit_count (length given / 2 + 1) bytes = λ m. λ bytes. λ e. e ∙ ap (λ (n : ℕ). fit_count (n / 2 + 1) bytes) (sym c.decode.auto.cells) in
     let e = c.power.ensures in let a = c.args in
-    answered_power spectrum _ refl given read a.powers.now a.values.now (counted _ _ c.requires.values_len) (c.packed-answer.ensures ∙ ap packed e.0) _ e.1.1 c.power.auto.1.0 c.write_back.ensures
+    answered_power spectrum _ refl given read a.powers.now a.values.now (counted _ _ c.requires.values_len) (c.packed-answer.ensures ∙ ap packed e.answer) _ e.powers c.power.auto.powers c.write_back.ensures

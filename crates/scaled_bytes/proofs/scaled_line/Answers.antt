@@ -1,5 +1,4 @@
 -- `scaled_line` is right because `scaled_in` is, in the front of the room.
-use borrow.Author.Rules.{rules}
 use mathlib.Core.Path.{sym, ◌∙◌}
 use native.Mathlib.Omega.{arith}
 use lib.Seq.{length-take-le}
