@@ -45,7 +45,7 @@ fn at_scale(s: usize, fine: u64) -> u32
 }
 
 // The fine cosine at j steps, of a quarter, with so many doublings left: from the whole turn's cosine at twice the angle.
-#[cycle(quarter_cosine_turn_cosine)]
+#[cycle(cosine)]
 fn quarter_cosine(doublings: usize, j: usize) -> u64
     ensures { result ≡ fine_with 60 doublings j }
 {
@@ -62,7 +62,7 @@ fn quarter_cosine(doublings: usize, j: usize) -> u64
 }
 
 // The fine cosine at any step of the whole turn, with so many doublings left: folded back to a quarter's.
-#[cycle(quarter_cosine_turn_cosine)]
+#[cycle(cosine)]
 fn turn_cosine(doublings: usize, step: usize) -> i64
     ensures { result ≡ cosine (fine_with 60 doublings) step }
 {

@@ -1,10 +1,10 @@
 -- `fill` is right because each entry is F(j), with all its eight doublings, rounded as the table's rule says.
 use borrow.Author.Rules.{rules}
 use mathlib.Core.Path.{◌≡◌, ◌∙◌, ap}
-use Prim.Native.Nat.{ℕ, ◌+◌, ◌-◌, ◌/◌, ◌^◌, ◌≤◌}
+use Prim.Native.Nat.{ℕ, ◌+◌, ◌-◌, ◌/◌, ◌^◌}
 use native.Mathlib.Omega.{arith}
-use lib.ListN.{length, length-set}
-use Rattle.ints.proofs.Filling.{Filled, filled_next, filled_all}
+use lib.ListN.{length-set}
+use Rattle.ints.proofs.Filling.{filled_next, filled_all}
 use Rattle.cosine.specs.Cosine.{fine, fine_with, quarter_table}
 use Rattle.table_rule.proofs.Rule.{fine_le}
 use Rattle.table_rule.proofs.fill.Goals as goal

@@ -1,5 +1,4 @@
 -- `negated` is right because 61 bits, negated, fit in 63.
-use borrow.Author.Rules.{rules}
 use Prim.Native.Nat.{◌<◌, ◌^◌}
 use native.Mathlib.Omega.{arith}
 use Rattle.ints.proofs.Fit.{minus_fits, reads_minus, reads_natural}
