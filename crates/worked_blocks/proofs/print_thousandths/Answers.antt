@@ -1,5 +1,5 @@
 -- `print_thousandths` is right because it cuts only what it has found to lie in the range of an i64.
-use Rattle.std.proofs.Common.{T, sym, subst, rules}
+use Rattle.std.proofs.Common.{T, sym, subst}
 use lib.Ieee.{of_bits, neg}
 use Rattle.worked_blocks.proofs.print_thousandths.Goals as goal
 
