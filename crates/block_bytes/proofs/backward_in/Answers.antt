@@ -1,5 +1,4 @@
 -- `backward_in` is right because the cells that were read are those that the bytes spell, or are refused as those would be; `backward` does the rest.
-use borrow.Author.Rules.{rules}
 use mathlib.Core.Path.{◌∙◌, ap}
 use Rattle.packing.specs.Packing.{packed}
 use Rattle.hartley.specs.Promises.{backward_left}
@@ -8,7 +7,7 @@ use Rattle.block_bytes.proofs.backward_in.Goals as goal
 
 pub returns : goal.returns
 returns c = let e = c.backward.ensures in
-    let bytes = c.args.bytes.now in let a = c.packed-answer.ensures ∙ ap packed e.0 in record {
+    let bytes = c.args.bytes.now in let a = c.packed-answer.ensures ∙ ap packed e.answer in record {
       says = said_in_place LEAST_LINE LARGEST_LINE bytes _ c.requires a;
-      leaves = left_in_place LEAST_LINE LARGEST_LINE bytes _ c.requires a backward_left _ e.1.1.0 c.backward.auto.0 c.write_back.ensures;
+      leaves = left_in_place LEAST_LINE LARGEST_LINE bytes _ c.requires a backward_left _ e.cells c.backward.auto.cells c.write_back.ensures;
     }

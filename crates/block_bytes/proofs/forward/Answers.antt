@@ -1,5 +1,4 @@
 -- `forward` is right because each of its ways is, and each is taken where its room is large enough.
-use borrow.Author.Rules.{rules}
 use mathlib.Core.Path.{sym, ◌∙◌}
 use native.Mathlib.Omega.{arith}
 use lib.Seq.{length-take-le}

@@ -1,5 +1,4 @@
 -- `forward_short` is right because each length that it names is the one at hand.
-use borrow.Author.Rules.{rules}
 use native.Mathlib.Omega.{arith}
 use Rattle.block_bytes.proofs.forward_short.Goals as goal
 

@@ -1,5 +1,4 @@
 -- `forward_small` is right because `forward_in` is, on the cells that are read into the front of the room.
-use borrow.Author.Rules.{rules}
 use mathlib.Core.Path.{sym, ◌∙◌}
 use native.Mathlib.Omega.{arith}
 use lib.Seq.{length-take-le}

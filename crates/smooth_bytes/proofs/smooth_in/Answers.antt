@@ -1,5 +1,4 @@
 -- `smooth_in` is right because the samples and weights that it reads are those that the bytes spell, or are refused as those would be; `smooth` does the rest.
-use borrow.Author.Rules.{rules}
 use mathlib.Core.Path.{◌≡◌, refl, ◌∙◌, ap}
 use mathlib.Core.List.{List}
 use Prim.Native.Nat.{ℕ}
@@ -22,4 +21,4 @@ returns c =
     let samples-read : samples ≡ signeds CELL (length c.args.cells.now) bytes = c.decode.ensures ∙ decoded_all bytes c.args.cells.now (room_fits LARGEST bytes _ c.requires.cells_len _ refl) in
     let factors-read : factors ≡ signeds CELL (length c.args.values.now) weights = c.decode-2.ensures ∙ values_read weights _ c.args.values.now c.requires.values_len in
     let e = c.smooth.ensures in let a = c.args in
-    answered bytes weights _ c.requires.cells_len samples factors samples-read _ c.requires.values_len factors-read (c.packed-answer.ensures ∙ ap packed e.0) _ _ e.1.1.0 c.smooth.auto.0 c.write_back.ensures
+    answered bytes weights _ c.requires.cells_len samples factors samples-read _ c.requires.values_len factors-read (c.packed-answer.ensures ∙ ap packed e.answer) _ _ e.cells c.smooth.auto.cells c.write_back.ensures

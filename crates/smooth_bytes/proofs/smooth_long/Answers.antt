@@ -1,5 +1,4 @@
 -- `smooth_long` is right because `smooth_in` is, in the fronts of rooms that are large enough.
-use borrow.Author.Rules.{rules}
 use mathlib.Core.Path.{sym, ◌∙◌}
 use native.Mathlib.Omega.{arith}
 use lib.Seq.{length-take-le}
@@ -14,9 +13,9 @@ slice_bounds-smooth_in-end-then-samples-le-MIDDLE c = sym (length-take-le _ _ (o
 
 pub smooth_in-requires : goal.smooth_in-requires
 smooth_in-requires c = record {
-        cells_len = length-take-le _ _ (omega arith) ∙ c.cell_count-samples.ensures.0;
-        values_len = length-take-le _ _ (omega (arith, c.fit_count-count.ensures.1)) ∙ counted_room _ _ _ _ c.fit_count-count.ensures.0 (length-take-le _ _ (omega arith));
-    }
+  cells_len = length-take-le _ _ (omega arith) ∙ c.cell_count-samples.ensures.0;
+  values_len = length-take-le _ _ (omega (arith, c.fit_count-count.ensures.1)) ∙ counted_room _ _ _ _ c.fit_count-count.ensures.0 (length-take-le _ _ (omega arith));
+}
 
 pub slice_bounds-smooth_in-end-2 : goal.slice_bounds-smooth_in-end-2
 slice_bounds-smooth_in-end-2 c = sym (length-take-le _ _ (omega (arith, c.cell_count-samples.ensures.1)))
@@ -26,6 +25,6 @@ slice_bounds-smooth_in-end-3 c = sym (length-take-le _ _ (omega (arith, c.fit_co
 
 pub smooth_in-requires-2 : goal.smooth_in-requires-2
 smooth_in-requires-2 c = let most = c.cell_count-samples.ensures.1 in record {
-        cells_len = length-take-le _ _ (omega (arith, most)) ∙ c.cell_count-samples.ensures.0;
-        values_len = length-take-le _ _ (omega (arith, c.fit_count-count.ensures.1, most)) ∙ counted_room _ _ _ _ c.fit_count-count.ensures.0 (length-take-le _ _ (omega (arith, most)));
-    }
+  cells_len = length-take-le _ _ (omega (arith, most)) ∙ c.cell_count-samples.ensures.0;
+  values_len = length-take-le _ _ (omega (arith, c.fit_count-count.ensures.1, most)) ∙ counted_room _ _ _ _ c.fit_count-count.ensures.0 (length-take-le _ _ (omega (arith, most)));
+}

@@ -1,5 +1,4 @@
 -- `smooth_two` is right because it reads all cells that the bytes spell, and `smooth_short` does the rest.
-use borrow.Author.Rules.{rules}
 use mathlib.Core.Path.{refl, ◌∙◌, ap}
 use native.Mathlib.Omega.{arith}
 use Rattle.packing.specs.Packing.{packed}
@@ -8,4 +7,4 @@ use Rattle.smooth_bytes.proofs.smooth_two.Goals as goal
 
 pub returns : goal.returns
 returns c = whole_answered 2 (omega arith) c.requires.0 c.requires.1 _ _ refl refl c.decode.ensures c.decode-2.ensures (c.packed-answer.ensures ∙ ap packed c.smooth_short.ensures.answer) _ _ c.smooth_short.ensures.sums
-    c.smooth_short.auto.1.1.1.0 c.write_back.ensures
+    c.smooth_short.auto.sums c.write_back.ensures
