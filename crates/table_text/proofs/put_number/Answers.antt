@@ -19,8 +19,7 @@ line n put room e = field_then decimal put room refl e put_none
 
 pub returns : goal.returns
 returns c =
-    let ten : length (decimal c.args.number) ≤ 10 = decimal-length 10 c.args.number (omega arith) (omega (arith, c.ranges.number)) in
-    (
-  line c.args.number c.put_decimal.ensures.put (omega arith) (omega arith),
-  omega (arith, (c.put_decimal.ensures.put (omega arith)).ends),
-)
+    let ten : length (decimal c.args.number) ≤ 10 = decimal-length 10 c.args.number (omega arith) (omega (arith, c.ranges.number)) in (
+      line c.args.number c.put_decimal.ensures.put (omega arith) (omega arith),
+      omega (arith, (c.put_decimal.ensures.put (omega arith)).ends),
+    )

@@ -2,13 +2,13 @@
 use borrow.Author.Rules.{rules}
 use mathlib.Core.Path.{◌≡◌, refl, ◌∙◌}
 use mathlib.Core.List.{List, [], ◌∷◌}
-use Prim.Native.Nat.{ℕ, ◌+◌, ◌-◌, ◌*◌, ◌≤◌, ◌<◌}
+use Prim.Native.Nat.{ℕ, ◌+◌, ◌*◌, ◌≤◌, ◌<◌}
 use native.Mathlib.Numerals.{add-one}
 use native.Mathlib.Omega.{arith}
-use lib.ListN.{length, get_or, drop}
+use lib.ListN.{length, get_or}
 use lib.Seq.{drop-cons, drop-length}
 use Rattle.ints.specs.Written.{Put}
-use Rattle.ints.proofs.Putting.{Still, still_begun, still_next, still_done}
+use Rattle.ints.proofs.Putting.{still_begun, still_next, still_done}
 use Rattle.text.specs.Decimals.{decimal}
 use Rattle.text.specs.Lines.{text_line}
 use Rattle.table_text.specs.TableText.{LINE_BYTES, number_lines}
