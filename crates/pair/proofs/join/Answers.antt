@@ -9,7 +9,6 @@ use lib.ListN.{length}
 use mir.Facts.{to_z-of_z}
 use mir.Syntax.{w64}
 use mir.Val.{to_z, of_z}
-use Rattle.ints.proofs.Tables.{length-tabulate}
 use Rattle.ints.specs.Cells.{cell}
 use Rattle.pair.specs.Pair.{Joinable, pair_line}
 use Rattle.pair.proofs.Splitting.{split-long}
@@ -120,11 +119,11 @@ loop-v-preserved c =
     let sine-read : let q = c.args.quarter.now in
     to_z w64 (of_z w64 c.wide-sine.result) ≡ entry q (length q - 1 - c.loop-v.v * c.args.stride) = let l = c.loop-v in sine-back c.requires l.v l.invariant.0 here.below c.wide-sine.result l.entry c.wide-sine.ensures l.invariant.2 in
     let l = c.loop-v in (
-  omega arith,
-  omega (arith, here.below, two_halves c.requires),
-  next-entry l.v c.args.stride l.entry _ l.invariant.2 refl,
-  quad-step c.requires l.v l.invariant.0 here.below l.cells l.invariant.3 _ _ _ cosine-read sine-read c.join_quad.ensures,
-)
+      omega arith,
+      omega (arith, here.below, two_halves c.requires),
+      next-entry l.v c.args.stride l.entry _ l.invariant.2 refl,
+      quad-step c.requires l.v l.invariant.0 here.below l.cells l.invariant.3 _ _ _ cosine-read sine-read c.join_quad.ensures,
+    )
 
 pub join_plain-requires : goal.join_plain-requires
 join_plain-requires c = let l = c.loop-v in let D = past c.requires l.v l.invariant.1 (omega (arith, c.loop-v-test.false)) l.invariant.3 in

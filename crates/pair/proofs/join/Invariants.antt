@@ -3,7 +3,6 @@ use Prim.Native.Nat.{◌*◌, ◌-◌, ◌≤◌, ◌<◌}
 use Rattle.ints.specs.Cells.{cell}
 use Rattle.pair.specs.Pair.{pair_line}
 use Rattle.pair.proofs.Joining.{Joined}
-use Rattle.pair.proofs.Steps.{entry}
 use Rattle.pair.proofs.join.Given as goal
 
 abbrev pub invariant-loop-v : goal.invariant-loop-v

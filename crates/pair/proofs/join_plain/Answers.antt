@@ -1,5 +1,4 @@
 -- `join_plain` is right because cell n + v is read before it is written.
-use borrow.Author.Rules.{rules}
 use mathlib.Core.Path.{◌∙◌, ap}
 use Prim.Native.Nat.{◌+◌, ◌≤◌}
 use native.Mathlib.Omega.{arith}

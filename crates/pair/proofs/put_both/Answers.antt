@@ -1,5 +1,4 @@
 -- `put_both` is right because a cell that can be multiplied and the quotient of a sum have a sum and a difference that fit.
-use borrow.Author.Rules.{rules}
 use mathlib.Core.Path.{◌≡◌, ap₂}
 use mathlib.Core.List.{List}
 use Prim.Native.Nat.{ℕ, ◌+◌, ◌≤◌}

@@ -1,5 +1,4 @@
 -- `wide` is right because 32 bits fit in 63.
-use borrow.Author.Rules.{rules}
 use native.Mathlib.Omega.{arith}
 use mir.Syntax.{w64}
 use mir.ValLaws.{to_z_pos}

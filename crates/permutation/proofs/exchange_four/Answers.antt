@@ -1,5 +1,4 @@
 -- `exchange_four` is right because its exchanges are those of the definition, in their order.
-use borrow.Author.Rules.{rules}
 use borrow.Author.Tests.{lt-ltb, le-ltb}
 use mathlib.Core.Path.{◌∙◌, ap}
 use Prim.Native.Nat.{◌+◌, ◌*◌}

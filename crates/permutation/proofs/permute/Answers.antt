@@ -1,16 +1,14 @@
 -- `permute` is right because each pair of partners is exchanged once, and the partners of four places lie as their numbers' reversed digits say.
 use mathlib.Core.Path.{◌≡◌, sym, ◌∙◌, ap, subst}
-use mathlib.Core.List.{List}
 use Prim.Native.Nat.{ℕ, suc, ◌*◌, ◌-◌, ◌/◌, ◌^◌, ◌≤◌, ◌<◌}
 use native.Mathlib.Omega.{arith}
-use lib.IntN.{ℤ}
 use lib.ListN.{length}
 use lib.Pow.{pow_mono}
 use Rattle.ints.proofs.Powers.{two_pow_pred}
 use Rattle.ints.specs.Cells.{cell}
 use Rattle.spectrum.specs.Levels.{permuted, reversed}
 use Rattle.spectrum.proofs.Reversal.{reversed_zero, reversed-lt, reversed-twice}
-use Rattle.permutation.proofs.Fours.{Fours, none_exchanged, fours_next, all_exchanged}
+use Rattle.permutation.proofs.Fours.{none_exchanged, fours_next, all_exchanged}
 use Rattle.permutation.proofs.permute.Invariants.{Exchanged}
 use Rattle.permutation.proofs.permute.Goals as goal
 
@@ -70,10 +68,10 @@ loop-u-preserved c =
     let at : Sizes c.args.p (length c.args.cells.now) = sizes c.args.p (length c.args.cells.now) c.requires.0 c.requires.1 c.requires.2 in
     let below : c.loop-u.u < 2 ^ (c.args.p - 2) = omega (arith, c.loop-u-test.true, at.quarter) in
     let l = c.loop-u in let Q = c.args.p - 2 in (
-  omega (arith, below),
-  c.next_reversed-r.ensures Q l.u (ap (λ (n : ℕ). n / 2) at.quarter) l.invariant.1,
-  fours_next (2 ^ Q) (reversed Q) (λ u h. reversed-lt Q u) (reversed-twice Q) (cell c.args.cells.now) l.u l.cells below l.invariant.2 l.r _ _ l.invariant.1 at.half c.exchange_four.ensures,
-)
+      omega (arith, below),
+      c.next_reversed-r.ensures Q l.u (ap (λ (n : ℕ). n / 2) at.quarter) l.invariant.1,
+      fours_next (2 ^ Q) (reversed Q) (λ u h. reversed-lt Q u) (reversed-twice Q) (cell c.args.cells.now) l.u l.cells below l.invariant.2 l.r _ _ l.invariant.1 at.half c.exchange_four.ensures,
+    )
 
 pub returns : goal.returns
 returns c = let l = c.loop-u in let Q = c.args.p - 2 in let z = sizes c.args.p (length c.args.cells.now) c.requires.0 c.requires.1 c.requires.2 in
