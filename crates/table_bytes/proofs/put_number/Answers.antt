@@ -1,5 +1,4 @@
 -- `put_number` is right because 32 bits fit in 63.
-use borrow.Author.Rules.{rules}
 use native.Mathlib.Omega.{arith}
 use Rattle.ints.proofs.Fit.{reads_natural}
 use Rattle.table_bytes.proofs.put_number.Goals as goal

@@ -1,31 +1,28 @@
 -- `put_numbers` is right because cell j takes number j, and the numbers from j on are still to be put.
-use borrow.Author.Rules.{rules}
 use mathlib.Core.Path.{◌≡◌, refl, sym, ◌∙◌, ap}
 use mathlib.Core.List.{List}
-use Prim.Native.Nat.{ℕ, ◌+◌, ◌-◌, ◌*◌, ◌≤◌, ◌<◌}
+use Prim.Native.Nat.{ℕ, ◌+◌, ◌*◌, ◌≤◌, ◌<◌}
 use native.Mathlib.Omega.{arith}
 use lib.IntN.{pos}
 use lib.ListN.{length, get_or, length-map, get_or-map}
 use Rattle.ints.specs.Cells.{cell}
 use Rattle.ints.specs.Written.{Put}
 use Rattle.little_endian.specs.Spelling.{spelled_signed, spelled_signeds}
-use Rattle.little_endian.proofs.Numbers.{NumbersPut, numbers_begun, numbers_room, numbers_next, numbers_over, one_spelled}
+use Rattle.little_endian.proofs.Numbers.{numbers_begun, numbers_room, numbers_next, numbers_over, one_spelled}
 use Rattle.cell_bytes.specs.CellBytes.{CELL}
 use Rattle.table_bytes.specs.TableLeft.{as_cells}
+use Rattle.table_bytes.proofs.put_numbers.Invariants.{Going}
 use Rattle.table_bytes.proofs.put_numbers.Goals as goal
 
 module _ (numbers before : List ℕ) where
-  abbrev Going : ℕ → List ℕ → Type 0
-  Going j now = NumbersPut CELL (as_cells numbers) before 0 j now (CELL * j)
-
   many : length (as_cells numbers) ≡ length numbers
   unfolding as_cells
   many = length-map numbers (λ n. pos n)
 
-  begun : (j : ℕ) → length before ≡ CELL * length numbers → j ≡ 0 → Going j before
+  begun : (j : ℕ) → length before ≡ CELL * length numbers → j ≡ 0 → Going numbers before j before
   begun j e ej = numbers_begun (omega (arith, many)) ej (omega arith)
 
-  module _ (j : ℕ) (now : List ℕ) (g : Going j now) where
+  module _ (j : ℕ) (now : List ℕ) (g : Going numbers before j now) where
     room : j < length numbers → CELL * j + CELL ≤ length now
     room h = numbers_room g 1 (omega (arith, many))
 
@@ -34,7 +31,7 @@ module _ (numbers before : List ℕ) where
     is-cell = sym (get_or-map (λ n. pos n) numbers j 0)
 
     -- a number is put at byte `at`, which is that of cell j, and is number j
-    next : (i at end n : ℕ) (after : List ℕ) → j < length numbers → Put (spelled_signed CELL (pos n)) now at after end → end ≡ at + CELL → at ≡ CELL * j → n ≡ get_or numbers j 0 → i ≡ j + 1 → Going i after
+    next : (i at end n : ℕ) (after : List ℕ) → j < length numbers → Put (spelled_signed CELL (pos n)) now at after end → end ≡ at + CELL → at ≡ CELL * j → n ≡ get_or numbers j 0 → i ≡ j + 1 → Going numbers before i after
     next i at end n after h p e ea en ei = numbers_next g 1 (omega (arith, many)) (rw (ea, to) at p)
         (ap (λ (m : ℕ). spelled_signed CELL (pos m)) en ∙ ap (spelled_signed CELL) is-cell ∙ one_spelled CELL (as_cells numbers) j (omega (arith, many))) ei
       where

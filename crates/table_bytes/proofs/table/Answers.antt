@@ -1,5 +1,4 @@
 -- `table` is right because the lent bytes are the table's cells, or else are left alone.
-use borrow.Author.Rules.{rules}
 use mathlib.Core.Path.{◌≡◌, refl, sym, ◌∙◌, ap}
 use mathlib.Core.Bool.{cond}
 use mathlib.Core.List.{List}
