@@ -1,7 +1,7 @@
 -- The bound grows with M and falls as the scale grows, since a / b rounded up, which is the least c with a ≤ b c, grows with a and falls as b grows.
 -- Example: `bound_grows 32768 q-positive M N M≤N P : bound 32768 M P ≤ bound 32768 N P`.
 use mathlib.Core.Path.{◌≡◌, refl}
-use Prim.Native.Nat.{ℕ, zero, suc, ◌+◌, ◌*◌, ◌-◌, ◌^◌, ◌≤◌, ◌<◌}
+use Prim.Native.Nat.{ℕ, zero, suc, ◌+◌, ◌*◌, ◌^◌, ◌≤◌, ◌<◌}
 use native.Mathlib.Nat.{div-lt_iff_lt-mul, le_trans, mul-le-mul_left, mul-le-mul_right}
 use native.Mathlib.Omega.{arith}
 use lib.Pow.{pow_pos}
