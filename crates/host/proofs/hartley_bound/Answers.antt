@@ -6,6 +6,6 @@ use Rattle.host.proofs.hartley_bound.Goals as goal
 
 pub returns : goal.returns
 returns c = let e = c.packed_bound.ensures ∙ ap packed_bound c.bound.ensures in record {
-        answer = e;
-        numbers = bound_told _ e;
-    }
+  answer = e;
+  numbers = bound_told _ e;
+}

@@ -20,6 +20,6 @@ unpacks trace r b e = ap unpacked_trace e
 
 pub returns : goal.returns
 returns c = let e = c.packed_trace.ensures ∙ ap packed_trace c.check.ensures.answer in record {
-        answer = e;
-        numbers = unpacks _ _ (λ i. (c.shared_slice_known-1.given i).fits) e;
-    }
+  answer = e;
+  numbers = unpacks _ _ (λ i. (c.shared_slice_known-1.given i).fits) e;
+}

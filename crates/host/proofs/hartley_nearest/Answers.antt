@@ -9,6 +9,6 @@ use Rattle.host.proofs.hartley_nearest.Goals as goal
 pub returns : goal.returns
 returns c = let n = simp (to_z-of_z c.ranges.level) at c.nearest.ensures in
     let e = c.packed_search.ensures ∙ ap packed_search n in record {
-        answer = e;
-        numbers = nearest_told _ (as_line _) _ e;
+      answer = e;
+      numbers = nearest_told _ (as_line _) _ e;
     }

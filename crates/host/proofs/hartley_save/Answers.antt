@@ -1,5 +1,4 @@
 -- `hartley_save` is right because it packs what `save` answers.
-use borrow.Author.Rules.{rules}
 use mathlib.Core.Path.{◌∙◌, ap}
 use Rattle.packing.specs.Packing.{packed_save}
 use Rattle.save_bytes.proofs.Told.{save_told}
@@ -7,8 +6,8 @@ use Rattle.host.proofs.hartley_save.Goals as goal
 
 pub returns : goal.returns
 returns c = let a = c.save.ensures in let e = c.packed_save.ensures ∙ ap packed_save a.says in record {
-        answer = e;
-        numbers = (λ few. save_told _ _ _ few e);
-        bytes = a.leaves;
-        reads_back = a.reads_back;
-    }
+  answer = e;
+  numbers = (λ few. save_told _ _ _ few e);
+  bytes = a.leaves;
+  reads_back = a.reads_back;
+}

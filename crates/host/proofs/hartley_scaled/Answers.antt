@@ -5,9 +5,9 @@ use Rattle.host.proofs.hartley_scaled.Goals as goal
 
 pub returns : goal.returns
 returns c = let a = c.scaled.ensures in record {
-        answer = a.says;
-        numbers = scaled_told (as_line _) _ a.says;
-        real = a.leaves_real;
-        imaginary = a.leaves_imaginary;
-        values = a.exact;
-    }
+  answer = a.says;
+  numbers = scaled_told (as_line _) _ a.says;
+  real = a.leaves_real;
+  imaginary = a.leaves_imaginary;
+  values = a.exact;
+}
