@@ -1,5 +1,5 @@
 -- `copy` is right because cell i takes cell i.
-use borrow.Author.Rules.{sfits_of}
+use borrow.Author.Rules.{rules}
 use mathlib.Core.Path.{◌≡◌, refl, ◌∙◌}
 use mathlib.Core.List.{List}
 use Prim.Native.Nat.{ℕ, ◌≤◌}
@@ -22,7 +22,7 @@ loop-i-init c = (refl, λ i h. absurd (omega arith))
 
 pub loop-i-preserved : goal.loop-i-preserved
 loop-i-preserved c = let l = c.loop-i in let from = c.args.from.now in
-    let back : to_z w64 (of_z w64 (cell from l.i)) ≡ cell from l.i = to_z-of_z {w = w64} (sfits_of c.to-1.given) in
+    let back : to_z w64 (of_z w64 (cell from l.i)) ≡ cell from l.i = to_z-of_z {w = w64} (search rules) in
     (length-set l.to l.i _ ∙ l.invariant.0, rw back (filled_next (pos 0) (cell from) l.to l.i (cell from l.i) (omega arith) refl l.invariant.1))
 
 pub returns : goal.returns

@@ -1,6 +1,6 @@
 -- `turn_back` is right because weight n − 1 − i goes to place i of both halves.
 use borrow.Author.Count.{below_more}
-use borrow.Author.Rules.{sfits_of}
+use borrow.Author.Rules.{rules}
 use mathlib.Core.Path.{◌≡◌, ◌∙◌}
 use mathlib.Core.List.{List}
 use Prim.Native.Nat.{ℕ, ◌+◌, ◌*◌, ◌-◌, ◌≤◌, ◌<◌}
@@ -54,7 +54,7 @@ pub bounds-turned-n : goal.bounds-turned-n
 bounds-turned-n c = omega (arith, length-set {A = ℤ}, c.loop-i.invariant.twice)
 
 pub loop-i-preserved : goal.loop-i-preserved
-loop-i-preserved c = let l = c.loop-i in backed-next l.invariant _ (to_z-of_z {w = w64} (sfits_of c.weight-1.given)) (omega arith)
+loop-i-preserved c = let l = c.loop-i in backed-next l.invariant _ (to_z-of_z {w = w64} (search rules)) (omega arith)
 
 pub returns : goal.returns
 returns c = backed-all c.loop-i.invariant (omega arith)

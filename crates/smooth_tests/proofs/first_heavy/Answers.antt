@@ -1,14 +1,14 @@
 -- `first_heavy` is right because the sum of the magnitudes before weight i is at hand and within the limit, so that the weights that are left decide.
-use borrow.Author.Rules.{sfits_of}
+use borrow.Author.Rules.{rules}
 use mathlib.Core.Path.{◌≡◌, ◌∙◌, ap}
 use mathlib.Core.List.{List, ◌∷◌}
-use Prim.Native.Nat.{ℕ, suc, ◌+◌, ◌≤◌, ◌<◌}
+use Prim.Native.Nat.{ℕ, suc, ◌+◌, ◌≤◌, ◌<◌, ◌^◌}
 use native.Mathlib.Numerals.{add-one}
 use native.Mathlib.Omega.{arith}
 use lib.IntN.{ℤ, pos, nat_abs}
 use lib.ListN.{length, drop, drop_of_length-le}
 use lib.Seq.{drop-cons}
-use lib.Signed.{nat_abs-le}
+use lib.Signed.{mag, nat_abs-le}
 use mir.Facts.{to_z-of_z}
 use mir.Syntax.{w64}
 use mir.Val.{to_z, of_z}
@@ -47,19 +47,20 @@ loop-i-init c = weighed-none (omega arith) (omega arith)
 pub overflow_add-running : goal.overflow_add-running
 overflow_add-running c =
     let read : ℤ = cell c.args.weights.now c.loop-i.i in
-    let told : c.magnitude-running.result ≡ nat_abs read = let back : to_z w64 (of_z w64 read) ≡ read = to_z-of_z {w = w64} (sfits_of c.magnitude-arg-1.given) in rw back at c.magnitude-running.ensures in
-    omega (arith, c.loop-i.invariant.light, told, nat_abs-le read c.magnitude-arg-1.given)
+    let told : c.magnitude-running.result ≡ nat_abs read = let back : to_z w64 (of_z w64 read) ≡ read = to_z-of_z {w = w64} (search rules) in rw back at c.magnitude-running.ensures in
+    let sized : mag read < 2 ^ 63 = search rules in
+    omega (arith, c.loop-i.invariant.light, told, nat_abs-le read sized)
 
 pub returns-then-running-gt-LARGEST_WEIGHTS : goal.returns-then-running-gt-LARGEST_WEIGHTS
 returns-then-running-gt-LARGEST_WEIGHTS c =
     let read : ℤ = cell c.args.weights.now c.loop-i.i in
-    let told : c.magnitude-running.result ≡ nat_abs read = let back : to_z w64 (of_z w64 read) ≡ read = to_z-of_z {w = w64} (sfits_of c.magnitude-arg-1.given) in rw back at c.magnitude-running.ensures in
+    let told : c.magnitude-running.result ≡ nat_abs read = let back : to_z w64 (of_z w64 read) ≡ read = to_z-of_z {w = w64} (search rules) in rw back at c.magnitude-running.ensures in
     weighed-heavy c.loop-i.invariant (omega arith) told (omega arith)
 
 pub loop-i-preserved : goal.loop-i-preserved
 loop-i-preserved c =
     let read : ℤ = cell c.args.weights.now c.loop-i.i in
-    let told : c.magnitude-running.result ≡ nat_abs read = let back : to_z w64 (of_z w64 read) ≡ read = to_z-of_z {w = w64} (sfits_of c.magnitude-arg-1.given) in rw back at c.magnitude-running.ensures in
+    let told : c.magnitude-running.result ≡ nat_abs read = let back : to_z w64 (of_z w64 read) ≡ read = to_z-of_z {w = w64} (search rules) in rw back at c.magnitude-running.ensures in
     weighed-next c.loop-i.invariant (omega arith) told (omega arith) (omega arith)
 
 pub returns : goal.returns
