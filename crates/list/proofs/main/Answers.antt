@@ -1,5 +1,4 @@
 -- `main` is right because what was read lies in the bytes for the trace, and the listing in those for it.
-use borrow.Author.Rules.{rules}
 use mathlib.Core.Path.{sym, subst}
 use Prim.Native.Nat.{◌≤◌}
 use lib.ListN.{length}
