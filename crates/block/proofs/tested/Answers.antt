@@ -45,7 +45,7 @@ module _ (low high : ℤ) (outputs : List ℕ) (xs : List ℤ) (len : ℕ) {k : 
       quiet : length xs ≤ place → Taken kind ≡ tested low high outputs xs
       quiet b = rw (le-ltb place (length xs) b) at placed
 
--- ---- the needs
+-- ---- the goals
 
 pub returns-then-misfit : goal.returns-then-misfit
 returns-then-misfit c = misfits _ _ _ _ _ c.of_len.ensures.answer (omega arith) _ c.in-Found.is c.misfit.ensures (omega arith) c.if-misfit.true

@@ -1,10 +1,8 @@
 -- `encode` is right because each round puts the eight bytes of one cell more after those of the cells before it.
-use mir.Syntax.{w64}
-use borrow.Author.Rules.{sfits_of}
+use borrow.Author.Rules.{rules}
 use mathlib.Core.Path.{◌≡◌, sym, ◌∙◌, ap}
 use Prim.Native.Nat.{◌+◌, ◌*◌}
 use native.Mathlib.Omega.{arith}
-use mir.Facts.{to_z-of_z}
 use Rattle.little_endian.specs.Spelling.{spelled_signed}
 use Rattle.little_endian.proofs.Numbers.{numbers_begun, numbers_room, numbers_next, numbers_over, one_spelled}
 use Rattle.cell_bytes.proofs.CellsRead.{encoded_all, encoded_none}
@@ -24,7 +22,7 @@ put_cell-requires c = numbers_room c.loop-i.invariant 1 (omega arith)
 
 pub loop-i-preserved : goal.loop-i-preserved
 loop-i-preserved c = let end : c.put_cell.result ≡ 8 * (c.loop-i.i + 1) = omega arith in
-    numbers_next c.loop-i.invariant 1 (omega arith) (rw end at c.put_cell.ensures.0) (ap (spelled_signed 8) (to_z-of_z {w = w64} (sfits_of c.put_cell-arg-1.given)) ∙ one_spelled 8 _ c.loop-i.i (omega arith)) (omega arith)
+    numbers_next c.loop-i.invariant 1 (omega arith) (rw end at c.put_cell.ensures.0) (ap (spelled_signed 8) (search rules) ∙ one_spelled 8 _ c.loop-i.i (omega arith)) (omega arith)
 
 pub returns : goal.returns
 returns c = let l = c.loop-i in numbers_over l.invariant (omega arith) (omega arith) (omega arith) ∙ sym (encoded_all _ _ (omega arith))

@@ -86,7 +86,7 @@ loop-i-smaller c = simp length-set (omega arith)
 pub loop-i-preserved : goal.loop-i-preserved
 loop-i-preserved c = let a = c.loop-i in
     mapped_next _ _ a.cells a.i _ _ _ _ (omega arith)
-    (written _ _ _ _ _ c.rounded.type_inv c.x-1.given c.rounded.ensures (search rules) (omega arith)) (omega arith) (omega arith) (omega arith) a.invariant
+    (written _ _ _ _ _ c.rounded.type_inv (search rules) c.rounded.ensures (search rules) (omega arith)) (omega arith) (omega arith) (omega arith) a.invariant
 
 pub returns : goal.returns
 returns c = let a = c.loop-i in mapped-all _ _ a.cells a.i (omega arith) a.invariant

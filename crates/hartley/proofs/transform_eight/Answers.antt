@@ -7,8 +7,6 @@ use Rattle.permutation.proofs.Exchanging.{eight_permuted}
 use Rattle.hartley.proofs.Steps.{steps, levels_can_run}
 use Rattle.hartley.proofs.transform_eight.Goals as goal
 
--- ---- after the first exchange, and after the second
-
 pub by_coarse_table-requires : goal.by_coarse_table-requires
 by_coarse_table-requires c =
     let moved : c.exchange-2.new.cells ≡ permuted 3 c.args.cells.now = c.exchange-2.ensures ∙ ap (exchanged 3 6) c.exchange.ensures ∙ eight_permuted c.args.cells.now c.requires.long in

@@ -10,8 +10,6 @@ use Rattle.levels.proofs.Blocks.{cells_small, entries-many, pair_ready}
 use Rattle.levels.proofs.TwoBlocks.{first-long, first_small, second-long, second-small, both_long, two-done, two_joined}
 use Rattle.levels.proofs.join_eight.Goals as goal
 
--- ---- where the calls stand: after levels 1 and 2 of the first four, and of the second
-
 pub join_four-requires : goal.join_four-requires
 join_four-requires c = let xs = c.args.cells.now in (first-long 4 2 xs c.requires.0, first_small LARGEST_FIRST 4 2 xs c.requires.0 (cells_small c.requires.1))
 

@@ -76,8 +76,6 @@ module _ {s : ℕ} {half : ℤ} {P : ℕ} {quarter : List ℕ} {before cells : L
       last : suc B.l ≡ P
       last = omega (arith, B.most, more)
 
--- ---- the round to which the end of the loop's body belongs, and the function's start
-
 -- the table serves level 3, and more
 third : {s : ℕ} {half : ℤ} {P : ℕ} {quarter : List ℕ} {ys : List ℤ} → LaterReady s half P quarter ys → 1 ≤ length quarter
 third {s} {half} R = omega (arith, entries-many (serves_fewer R.ready.table 2 (omega (arith, R.least)) half refl))

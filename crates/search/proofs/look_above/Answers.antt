@@ -7,7 +7,7 @@ use Rattle.search.specs.Inner.{NoneWithin}
 use Rattle.search.proofs.Outwards.{above-found, at_line, nearest-is, none_left, none-next}
 use Rattle.search.proofs.look_above.Goals as goal
 
--- ---- the needs
+-- ---- the goals
 
 pub loop-far-init : goal.loop-far-init
 loop-far-init c = (c.requires.1, simp (to_z-of_z c.ranges.level) c.requires.2)

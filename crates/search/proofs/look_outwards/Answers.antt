@@ -13,7 +13,7 @@ use Rattle.search.proofs.look_outwards.Goals as goal
 end-above : (v above near far : ℕ) → Smaller v above near → near < far → far ≤ v → above < far
 end-above v above near far s h k = ⊎_elim (λ e. absurd (omega arith)) (λ e. omega arith) s.one_of_them
 
--- ---- the needs
+-- ---- the goals
 
 pub returns-then-reaches_at : goal.returns-then-reaches_at
 returns-then-reaches_at c = sym (nearest-is _ _ _ _ (here_found _ _ _ c.requires (at_line _ true (simp (to_z-of_z c.ranges.level) at c.reaches_at.ensures) (omega arith) c.if-reaches_at.true)))

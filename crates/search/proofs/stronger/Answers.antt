@@ -1,10 +1,10 @@
 -- `stronger` is right because it makes the definition's comparison.
+use borrow.Author.Rules.{rules}
 use mathlib.Core.Path.{◌≡◌, refl}
 use mathlib.Core.Bool.{Bool, true, false, cond}
 use Prim.Native.Nat.{ℕ}
 use lib.IntN.{ℤ}
 use mir.Facts.{to_z-of_z}
-use mir.Syntax.{w64}
 use Rattle.search.specs.declared.Peak.{Peak}
 use Rattle.search.specs.Search.{reaches}
 use Rattle.search.specs.Inner.{stronger}
@@ -15,7 +15,7 @@ by : (peak : Peak) (v : ℕ) (power : ℤ) {p q : ℤ} {r : Bool} (t : Bool) →
 by peak v power t e f g h = rw (← f, ← g, ← e, h) refl
 
 pub returns-then-kept : goal.returns-then-kept
-returns-then-kept c = by c.args.peak _ _ true c.reaches-kept.ensures (to_z-of_z {w = w64} {z = c.args.peak.power} (record { sfits = c.struct_told-1.given.1.0.1 })) (to_z-of_z c.ranges.power) c.if-kept.true
+returns-then-kept c = by c.args.peak _ _ true c.reaches-kept.ensures (search rules) (to_z-of_z c.ranges.power) c.if-kept.true
 
 pub returns-else-kept : goal.returns-else-kept
-returns-else-kept c = by c.args.peak _ _ false c.reaches-kept.ensures (to_z-of_z {w = w64} {z = c.args.peak.power} (record { sfits = c.struct_told-1.given.1.0.1 })) (to_z-of_z c.ranges.power) c.if-kept.false
+returns-else-kept c = by c.args.peak _ _ false c.reaches-kept.ensures (search rules) (to_z-of_z c.ranges.power) c.if-kept.false

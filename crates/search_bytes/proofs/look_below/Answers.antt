@@ -9,7 +9,7 @@ use Rattle.search.specs.Inner.{NoneWithin}
 use Rattle.search.proofs.Outwards.{at_line, below-found, nearest-is, none_left, none-next}
 use Rattle.search_bytes.proofs.look_below.Goals as goal
 
--- ---- the needs
+-- ---- the goals
 
 pub loop-far-init : goal.loop-far-init
 loop-far-init c = (c.requires.1, simp (to_z-of_z c.ranges.level) c.requires.2)

@@ -10,7 +10,7 @@ use Rattle.search.specs.SearchTests.{tested_chosen}
 use Rattle.search.proofs.Checks.{chosen_known, nearest_so}
 use Rattle.search_bytes.proofs.nearest.Goals as goal
 
--- ---- the needs
+-- ---- the goals
 
 pub look_outwards-requires : goal.look_outwards-requires
 look_outwards-requires c =

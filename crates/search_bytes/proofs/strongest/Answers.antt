@@ -19,7 +19,7 @@ use Rattle.search_bytes.proofs.strongest.Goals as goal
 by_count : {k : SearchVerdict} {n m : ℕ} (low high : Line) → k ≡ tested_band n low high → n ≡ m → k ≡ tested_band m low high
 by_count low high e f = e ∙ ap (λ (n : ℕ). tested_band n low high) f
 
--- ---- the needs
+-- ---- the goals
 
 pub look_through-requires : goal.look_through-requires
 look_through-requires c =
