@@ -13,13 +13,14 @@ output_open() {
 }
 
 # run_program: has the program built, if need be, and runs it on standard input. What it writes goes straight to standard output; what it tells on
-# standard error decides the status, since it has none of its own.
+# standard error decides the status, since it has none of its own, but 141 where its reader has gone, of which nothing is told.
 run_program() {
     "$here/build" "$name" </dev/null >&2
     exec 3>&1
     status=0
     told=$("$here/target/$name" 2>&1 >&3 3>&-) || status=$?
+    [ "$status" -ne 141 ] || exit 141
     [ -z "$told" ] || { printf '%s\n' "$told" >&2 || :; exit 1; }
-    [ "$status" -eq 0 ] || [ "$status" -eq 141 ] || ends "$status" "the program was ended by signal $((status - 128))"
+    [ "$status" -eq 0 ] || ends "$status" "the program was ended by signal $((status - 128))"
     exit "$status"
 }

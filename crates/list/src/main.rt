@@ -6,7 +6,8 @@ ghost use Rattle.trace.specs.Contents.{LONGEST};
 ghost use Rattle.listing.specs.Listing.{ROOM};
 ghost use Rattle.list.specs.Input.{Fits};
 
-use std::io::Read;
+use std::io::{Error, ErrorKind, Read};
+use std::process::ExitCode;
 
 // What was read from standard input: so many bytes, or a read failed.
 #[derive(Clone, Copy)]
@@ -16,7 +17,7 @@ enum Input {
 }
 
 // Reads, lists and writes. It keeps its samples in one block of 1,024 zero cells at the start.
-fn main(rt: HostRuntime) {
+fn main(rt: HostRuntime) -> ExitCode {
     let mut trace = input_buffer();
     let mut out = output_buffer();
     match read_trace(&mut rt.stdin(), &mut trace) {
@@ -25,10 +26,21 @@ fn main(rt: HostRuntime) {
         }
         Input::Read(len) => {
             let used = listing::list(&trace[..len], [0i64; 1024], &mut out);
-            if rt.write_all(&out[..used]).is_err() {
+            if let Err(error) = rt.write_all(&out[..used]) {
                 let _ = eprintln!(rt; "list: the listing cannot be written");
+                return status_of(error);
             }
         }
+    }
+    ExitCode::SUCCESS
+}
+
+// Where the listing cannot be written since its reader has gone, the status is that of a program which the signal of a closed pipe ends, 128 + 13.
+fn status_of(error: Error) -> ExitCode {
+    if error.kind() == ErrorKind::BrokenPipe {
+        ExitCode::from(141)
+    } else {
+        ExitCode::SUCCESS
     }
 }
 

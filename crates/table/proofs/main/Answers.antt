@@ -1,5 +1,4 @@
 -- `main` is right because the table lies in the bytes for it.
-use borrow.Author.Rules.{rules}
 use mathlib.Core.Path.{sym}
 use lib.Seq.{length-take-le}
 use Rattle.table.proofs.main.Goals as goal
