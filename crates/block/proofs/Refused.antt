@@ -19,24 +19,24 @@ use Rattle.refusal.specs.RefusalTable.{number, place}
 use Rattle.kind.specs.BlockKinds.{LARGEST, kind_of}
 use Rattle.kind.specs.declared.KindFound.{KindFound}
 use Rattle.kind.specs.declared.KindFound.TheVariants.{Found, None}
-use Rattle.kind.proofs.Lengths.{Kind-length, kind-length, kind_none}
+use Rattle.kind.proofs.Lengths.{KindLength, kind-length, kind_none}
 use Rattle.block.specs.Tests.{of_length, refused_if, misfit, first_loud, tested}
 
 -- a block has 2 cells or more, and not more than the largest
-pub kind-least : {n P : ℕ} → Kind-length n P → 2 ≤ n
+pub kind-least : {n P : ℕ} → KindLength n P → 2 ≤ n
 kind-least {n} {P} k = let two : 2 ^ 1 ≤ 2 ^ P = pow_mono k.least in omega (arith, k.cells)
 
-pub kind-largest : {n P : ℕ} → Kind-length n P → n ≤ LARGEST
+pub kind-largest : {n P : ℕ} → KindLength n P → n ≤ LARGEST
 kind-largest {n} {P} k = let most : 2 ^ P ≤ 2 ^ 10 = pow_mono k.most in omega (arith, k.cells)
 
 module _ (low high : ℤ) where
   -- 1, whatever the outputs are
-  pub tested-length : (outputs : List ℕ) (xs : List ℤ) → ((P : ℕ) → Kind-length (length xs) P → ⊥) → tested low high outputs xs ≡ Refused Length
+  pub tested-length : (outputs : List ℕ) (xs : List ℤ) → ((P : ℕ) → KindLength (length xs) P → ⊥) → tested low high outputs xs ≡ Refused Length
   unfolding tested
   tested-length outputs xs h = rw (kind_none (length xs) h) refl
 
   -- outputs that fit as little, or as much, as others
-  pub tested_outputs : (os ps : List ℕ) (xs : List ℤ) → ((P : ℕ) → Kind-length (length xs) P → misfit (length xs / 2 + 1) os ≡ misfit (length xs / 2 + 1) ps)
+  pub tested_outputs : (os ps : List ℕ) (xs : List ℤ) → ((P : ℕ) → KindLength (length xs) P → misfit (length xs / 2 + 1) os ≡ misfit (length xs / 2 + 1) ps)
       → tested low high os xs ≡ tested low high ps xs
   unfolding tested
   tested_outputs os ps xs h = go (kind_of (length xs)) refl

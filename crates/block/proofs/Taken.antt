@@ -24,7 +24,7 @@ use Rattle.kind.specs.declared.Line.{Line}
 use Rattle.refusal.specs.declared.Refusal.{Refusal}
 use Rattle.refusal.specs.declared.Refusal.TheVariants.{Length, Misfit, Loud, Line as LineAbove}
 use Rattle.kind.specs.BlockKinds.{kind_with, kind_of}
-use Rattle.kind.proofs.Lengths.{Kind-length, kind-length, kind-given}
+use Rattle.kind.proofs.Lengths.{KindLength, kind-length, kind-given}
 use Rattle.ints.specs.Cells.{cell}
 use Rattle.kind.specs.Loudness.{LOUDEST_SAMPLE, LOUDEST_LINE}
 use Rattle.block.specs.Transformable.{Transformable}
@@ -99,7 +99,7 @@ module _ (low high : ℤ) (outputs : List ℕ) (xs : List ℤ) (kind : BlockKind
   pub taken_found : kind_of (length xs) ≡ Found kind
   taken_found = length_found (kind_of (length xs)) kind fits_then.1
 
-  pub taken_kind : Kind-length (length xs) kind.p
+  pub taken_kind : KindLength (length xs) kind.p
   taken_kind = kind-length (length xs) kind.p taken_found
 
   pub taken_fits : misfit (length xs / 2 + 1) outputs ≡ false
@@ -134,7 +134,7 @@ unfolding first_loud
 all_quiet low high [] h k = refl
 all_quiet low high (x ∷ xs) h k = rw (at_most_test x low (h 0), at_most_test high x (k 0)) (ap suc (all_quiet low high xs (λ i. h (suc i)) (λ i. k (suc i))))
 
-pub must_take : (low high : ℤ) (P : ℕ) (outputs : List ℕ) (xs : List ℤ) → Kind-length (length xs) P → misfit (length xs / 2 + 1) outputs ≡ false
+pub must_take : (low high : ℤ) (P : ℕ) (outputs : List ℕ) (xs : List ℤ) → KindLength (length xs) P → misfit (length xs / 2 + 1) outputs ≡ false
     → ((i : ℕ) → low ≼ cell xs i) → ((i : ℕ) → cell xs i ≼ high) → tested low high outputs xs ≡ Taken (kind_with P)
 unfolding tested
 must_take low high P outputs xs n f h k = rw (all_quiet low high xs h k, le-ltb (length xs) (length xs) (omega arith), f, kind-given (length xs) P n) refl

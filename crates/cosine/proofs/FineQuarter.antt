@@ -119,7 +119,7 @@ quarter_squares j h = rw (cosines_are j h, cosines_are (256 - j) (omega arith)) 
 
 -- ---- the sum law in whole numbers: x and y of the sum, a and b of the one angle, p and r of the other
 
-pub record Sum-law (x y a b p r : ℤ) : Type 0 where
+pub record SumLaw (x y a b p r : ℤ) : Type 0 where
   pub of_cosine : nat_abs (x *ℤ pos (2 ^ 60) -ℤ (a *ℤ p -ℤ b *ℤ r)) ≤ 2 ^ 66
   pub of_sine : nat_abs (y *ℤ pos (2 ^ 60) -ℤ (b *ℤ p +ℤ a *ℤ r)) ≤ 2 ^ 66
 
@@ -134,7 +134,7 @@ module _ (a b x y p q s U : ℕ) where
   sine_form : pos (s * U) -ℤ pos (b * x + a * y) ≡ pos s *ℤ pos U -ℤ (pos b *ℤ pos x +ℤ pos a *ℤ pos y)
   sine_form = ring (pos U ∷ pos a ∷ pos b ∷ pos x ∷ pos y ∷ pos s ∷ []) (search quotes depth 40) tt
 
-of_close : (a b : ℕ × ℕ) (z : ℕ × ℕ × ℕ) → T (close a b z) → Sum-law (pos z.0 -ℤ pos z.1) (pos z.2) (pos a.0) (pos a.1) (pos b.0) (pos b.1)
+of_close : (a b : ℕ × ℕ) (z : ℕ × ℕ × ℕ) → T (close a b z) → SumLaw (pos z.0 -ℤ pos z.1) (pos z.2) (pos a.0) (pos a.1) (pos b.0) (pos b.1)
 unfolding close cosine_close sine_close
 of_close a b z t = record {
   of_cosine = of_apart _ _ _ _ (cosine_form a.0 a.1 b.0 b.1 z.0 z.1 z.2 (2 ^ 60)) (and_l (cosine_close a b z) (sine_close a b z) t);
@@ -166,12 +166,12 @@ half_turn_parts : (i : ℕ) → i < 512 →
 unfolding triple
 half_turn_parts i h = half_parts (entries cosines) (cosines_are 256 (omega arith) ∙ fine_end) i h (ltb i 256) (ltb→lt i 256) (nltb→le i 256)
 
-listed-sum : (j k : ℕ) → j < 256 → k < 256 → let c = cosine (entries cosines) in let s = sine (entries cosines) in Sum-law (c (j + k)) (s (j + k)) (c j) (s j) (c k) (s k)
+listed-sum : (j k : ℕ) → j < 256 → k < 256 → let c = cosine (entries cosines) in let s = sine (entries cosines) in SumLaw (c (j + k)) (s (j + k)) (c j) (s j) (c k) (s k)
 unfolding pair
 listed-sum j k hj hk = let F = entries cosines in let sum = half_turn_parts (j + k) (omega arith) in
     rw (sum.0, sum.1, cosine-first F j (omega arith), sine-first F j (omega arith), cosine-first F k (omega arith), sine-first F k (omega arith))
     (of_close (pair cosines j) (pair cosines k) (triple cosines (j + k)) (close_at j k hj hk))
 
-pub quarter_sum : (j k : ℕ) → j < 256 → k < 256 → Sum-law (cosine fine (j + k)) (sine fine (j + k)) (cosine fine j) (sine fine j) (cosine fine k) (sine fine k)
+pub quarter_sum : (j k : ℕ) → j < 256 → k < 256 → SumLaw (cosine fine (j + k)) (sine fine (j + k)) (cosine fine j) (sine fine j) (cosine fine k) (sine fine k)
 unfolding cosines
 quarter_sum j k hj hk = rw (fun_ext (cosine-listed fine), fun_ext (sine-listed fine)) at (listed-sum j k hj hk)

@@ -12,7 +12,7 @@ use Rattle.ints.proofs.Abs.{abs_fact, abs_plus, abs_neg}
 use Rattle.cosine.specs.Cosine.{half_turn, cosine, sine, cas, fine}
 use Rattle.cosine.proofs.Turn.{cosine-half_turn, cosine-first, sine-first, cosine_quarter, sine_quarter, by_quarters}
 use Rattle.cosine.proofs.HalfAngle.{fine_top, fine_end}
-use Rattle.cosine.proofs.FineQuarter.{Sum-law, quarter_sum, quarter_size}
+use Rattle.cosine.proofs.FineQuarter.{SumLaw, quarter_sum, quarter_size}
 
 -- ---- the sum law. A quarter turn on makes (c, s) into (−s, c), which makes each of the two laws into the other.
 
@@ -32,14 +32,14 @@ module _ (x y a b p r u : ℤ) where
   of_cas : (x +ℤ y) *ℤ u -ℤ ((a +ℤ b) *ℤ p +ℤ (a -ℤ b) *ℤ r) ≡ (x *ℤ u -ℤ (a *ℤ p -ℤ b *ℤ r)) +ℤ (y *ℤ u -ℤ (b *ℤ p +ℤ a *ℤ r))
   of_cas = ring (x ∷ y ∷ a ∷ b ∷ p ∷ r ∷ u ∷ []) (search quotes depth 40) tt
 
-module _ (x y a b p r : ℤ) (h : Sum-law x y a b p r) where
-  first_on : Sum-law (neg_ℤ y) x (neg_ℤ b) a p r
+module _ (x y a b p r : ℤ) (h : SumLaw x y a b p r) where
+  first_on : SumLaw (neg_ℤ y) x (neg_ℤ b) a p r
   first_on = record {
     of_cosine = rw (first-cosine x y a b p r (pos (2 ^ 60)), abs_neg) h.of_sine;
     of_sine = rw (first-sine x y a b p r (pos (2 ^ 60))) h.of_cosine;
   }
 
-  second_on : Sum-law (neg_ℤ y) x a b (neg_ℤ r) p
+  second_on : SumLaw (neg_ℤ y) x a b (neg_ℤ r) p
   second_on = record {
     of_cosine = rw (second-cosine x y a b p r (pos (2 ^ 60)), abs_neg) h.of_sine;
     of_sine = rw (second-sine x y a b p r (pos (2 ^ 60))) h.of_cosine;
@@ -56,7 +56,7 @@ sine_on : (j : ℕ) → sine fine (j + 256) ≡ cosine fine j
 sine_on = sine_quarter fine fine_end
 
 abbrev Holds : ℕ → ℕ → Type 0
-Holds j k = Sum-law (cosine fine (j + k)) (sine fine (j + k)) (cosine fine j) (sine fine j) (cosine fine k) (sine fine k)
+Holds j k = SumLaw (cosine fine (j + k)) (sine fine (j + k)) (cosine fine j) (sine fine j) (cosine fine k) (sine fine k)
 
 pub sum_law : (j k : ℕ) → Holds j k
 sum_law j k = by_quarters (λ j. (k : ℕ) → Holds j k) (λ j hj. by_quarters (Holds j) (λ k hk. quarter_sum j k hj hk) (second j)) first j k
@@ -122,22 +122,22 @@ cas_quarters m j = ap₂ ◌+ℤ◌ (on m j).0 (on m j).1 ∙ ring (cosine fine 
 
 -- ---- the sizes
 
-pub record Fine-size (c s : ℤ) : Type 0 where
+pub record FineSize (c s : ℤ) : Type 0 where
   pub cosine-size : nat_abs c ≤ 2 ^ 60
   pub sine-size : nat_abs s ≤ 2 ^ 60
   pub pair_size : nat_abs c + nat_abs s ≤ 92682 * 2 ^ 44
 
-pub fine-size : (j : ℕ) → Fine-size (cosine fine j) (sine fine j)
-fine-size = by_quarters (λ j. Fine-size (cosine fine j) (sine fine j)) first next
+pub fine-size : (j : ℕ) → FineSize (cosine fine j) (sine fine j)
+fine-size = by_quarters (λ j. FineSize (cosine fine j) (sine fine j)) first next
   where
-    first : (i : ℕ) → i < 256 → Fine-size (cosine fine i) (sine fine i)
+    first : (i : ℕ) → i < 256 → FineSize (cosine fine i) (sine fine i)
     first i h = rw (cosine-first fine i (omega arith), sine-first fine i (omega arith)) (record {
       cosine-size = (quarter_size i (omega arith)).alone;
       sine-size = (quarter_size (256 - i) (omega arith)).alone;
       pair_size = (quarter_size i (omega arith)).together;
     })
 
-    next : (j : ℕ) → Fine-size (cosine fine j) (sine fine j) → Fine-size (cosine fine (j + 256)) (sine fine (j + 256))
+    next : (j : ℕ) → FineSize (cosine fine j) (sine fine j) → FineSize (cosine fine (j + 256)) (sine fine (j + 256))
     next j h = rw (cosine_on j, sine_on j)
         (record { cosine-size = rw abs_neg h.sine-size; sine-size = h.cosine-size; pair_size = rw abs_neg (omega (arith, h.pair_size)) })
 

@@ -45,7 +45,7 @@ is-power (suc m) n P e = go (eqb (2 ^ suc m) n) refl (is-power m n P) e
 
 -- ---- the kind
 
-pub record Kind-length (n P : ℕ) : Type 0 where
+pub record KindLength (n P : ℕ) : Type 0 where
   pub least : 1 ≤ P
   pub most : P ≤ 10
   pub cells : n ≡ 2 ^ P
@@ -54,16 +54,16 @@ abbrev exponent_of : KindFound → ℕ
 exponent_of (Found k) = k.p
 exponent_of None = 0
 
-pub kind-length : (n P : ℕ) → kind_of n ≡ Found (kind_with P) → Kind-length n P
+pub kind-length : (n P : ℕ) → kind_of n ≡ Found (kind_with P) → KindLength n P
 unfolding kind_of
 kind-length n P e = go (exponent 10 n) refl e
   where
-    go : (x : ℕ) → exponent 10 n ≡ x → found x ≡ Found (kind_with P) → Kind-length n P
+    go : (x : ℕ) → exponent 10 n ≡ x → found x ≡ Found (kind_with P) → KindLength n P
     go zero e k = let z : ◌≡◌ {A = ℕ} 0 1 = cc in omega arith
     go (suc x) e k = let same : suc x ≡ P = ap exponent_of k in let f = is-power 10 n x e in
         record { least = omega arith; most = omega arith; cells = f.1 ∙ ap (λ (y : ℕ). 2 ^ y) same }
 
-pub kind-given : (n P : ℕ) → Kind-length n P → kind_of n ≡ Found (kind_with P)
+pub kind-given : (n P : ℕ) → KindLength n P → kind_of n ≡ Found (kind_with P)
 unfolding kind_of
 kind-given n P h = ap (λ (x : ℕ). found (exponent 10 x)) h.cells ∙ ap found (exponent-pow 10 P h.least h.most) ∙ go P h.least
   where
@@ -74,7 +74,7 @@ kind-given n P h = ap (λ (x : ℕ). found (exponent 10 x)) h.cells ∙ ap found
         never h = omega arith
     go (suc P) h = refl
 
-pub kind_none : (n : ℕ) → ((P : ℕ) → Kind-length n P → ⊥) → kind_of n ≡ None
+pub kind_none : (n : ℕ) → ((P : ℕ) → KindLength n P → ⊥) → kind_of n ≡ None
 unfolding kind_of
 kind_none n h = ap found (exponent_none 10 n (λ P a b e. h P (record { least = a; most = b; cells = sym e })))
 

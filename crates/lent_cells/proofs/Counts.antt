@@ -14,7 +14,7 @@ use Rattle.block.specs.declared.BlockVerdict.{BlockVerdict}
 use Rattle.block.specs.declared.BlockVerdict.TheVariants.{Taken, Refused}
 use Rattle.refusal.specs.declared.Refusal.TheVariants.{Length, Misfit}
 use Rattle.kind.specs.BlockKinds.{LARGEST}
-use Rattle.kind.proofs.Lengths.{Kind-length, kind-given}
+use Rattle.kind.proofs.Lengths.{KindLength, kind-given}
 use Rattle.ints.specs.Cells.{cell}
 use Rattle.block.specs.BlockAnswers.{cells_left}
 use Rattle.block.specs.Tests.{misfit, tested}
@@ -29,10 +29,10 @@ use Rattle.lent_cells.specs.BytesLeft.{bytes_left}
 
 -- ---- a block, or a spectrum
 
-no_block : {n : ℕ} → n ≡ 0 → (P : ℕ) → Kind-length n P → ⊥
+no_block : {n : ℕ} → n ≡ 0 → (P : ℕ) → KindLength n P → ⊥
 no_block z P k = omega (arith, kind-least k)
 
-large_block : {n : ℕ} → LARGEST < n → (P : ℕ) → Kind-length n P → ⊥
+large_block : {n : ℕ} → LARGEST < n → (P : ℕ) → KindLength n P → ⊥
 large_block h P k = omega (arith, kind-largest k)
 
 module _ (low high : ℤ) (outputs : List ℕ) (bytes : List ℕ) where
@@ -80,7 +80,7 @@ same-misfit wanted some (bytes ∷ more) = rw (fit_count_lem wanted some bytes, 
 
 module _ (low high : ℤ) where
   -- a count of bytes that is no multiple of eight is refusal 2, where 1 is passed
-  pub left_over_output : (bytes : List ℕ) (outputs : List (List ℕ)) (xs : List ℤ) → (length bytes % CELL ≡ 0 → ⊥) → (P : ℕ) → Kind-length (length xs) P
+  pub left_over_output : (bytes : List ℕ) (outputs : List (List ℕ)) (xs : List ℤ) → (length bytes % CELL ≡ 0 → ⊥) → (P : ℕ) → KindLength (length xs) P
       → tested low high (counts_spelt (bytes ∷ outputs)) xs ≡ Refused Misfit
   unfolding tested misfit
   left_over_output bytes outputs xs h P k = rw (ne_eqb (length (cells_in bytes)) (length xs / 2 + 1) (λ e. omega (arith, ap length (no_cells bytes h))), kind-given (length xs) P k) refl

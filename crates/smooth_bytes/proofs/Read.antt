@@ -12,7 +12,7 @@ use lib.ListN.{length}
 use lib.Pow.{pow_pos}
 use Rattle.kind.specs.declared.BlockKind.{BlockKind}
 use Rattle.kind.specs.BlockKinds.{LARGEST}
-use Rattle.kind.proofs.Lengths.{Kind-length}
+use Rattle.kind.proofs.Lengths.{KindLength}
 use Rattle.little_endian.specs.Reading.{signeds}
 use Rattle.little_endian.proofs.Signed.{length-signeds}
 use Rattle.cell_bytes.specs.CellBytes.{CELL, cell_count, cells_in, decoded, fit_count}
@@ -31,10 +31,10 @@ use Rattle.exact.specs.Smoothing.{cyclic_sums}
 use Rattle.smoothing.specs.Promises.{smooth_left, sums_left}
 use Rattle.smooth_bytes.specs.Inner.{SmoothAnswered}
 
-no_block : {n : ℕ} → n ≡ 0 → (P : ℕ) → Kind-length n P → ⊥
+no_block : {n : ℕ} → n ≡ 0 → (P : ℕ) → KindLength n P → ⊥
 no_block z P k = omega (arith, kind-least k)
 
-large_block : {n : ℕ} → LARGEST < n → (P : ℕ) → Kind-length n P → ⊥
+large_block : {n : ℕ} → LARGEST < n → (P : ℕ) → KindLength n P → ⊥
 large_block h P k = omega (arith, kind-largest k)
 
 -- there are bytes for as many weights as are counted, and they are read into a room for them

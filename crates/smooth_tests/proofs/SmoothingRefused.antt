@@ -13,7 +13,7 @@ use Rattle.kind.specs.BlockKinds.{LARGEST, kind_of}
 use Rattle.kind.specs.declared.KindFound.{KindFound}
 use Rattle.kind.specs.declared.KindFound.TheVariants.{Found, None}
 use Rattle.kind.specs.Loudness.{LEAST_SAMPLE, LARGEST_SAMPLE}
-use Rattle.kind.proofs.Lengths.{Kind-length, kind_none}
+use Rattle.kind.proofs.Lengths.{KindLength, kind_none}
 use Rattle.refusal.specs.declared.Refusal.{Refusal}
 use Rattle.refusal.specs.declared.Refusal.TheVariants.{Length, Misfit, Weights}
 use Rattle.refusal.specs.RefusalTable.{place}
@@ -26,7 +26,7 @@ use Rattle.smooth_tests.specs.Tests.{first_heavy, tested_smoothing}
 use Rattle.smooth_tests.proofs.SmoothingTaken.{fit_tested, unfit_tested}
 
 -- 1, whatever the weights are
-pub smoothing_length : (xs ws : List ℤ) → ((P : ℕ) → Kind-length (length xs) P → ⊥) → tested_smoothing xs ws ≡ Refused Length
+pub smoothing_length : (xs ws : List ℤ) → ((P : ℕ) → KindLength (length xs) P → ⊥) → tested_smoothing xs ws ≡ Refused Length
 unfolding tested_smoothing
 smoothing_length xs ws h = rw (kind_none (length xs) h) refl
 

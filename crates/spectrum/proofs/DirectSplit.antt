@@ -16,7 +16,7 @@ use Rattle.ints.proofs.Sums.{sum_cong, sum-even_odd, sum_abs}
 use Rattle.cosine.specs.Cosine.{cosine, sine, cas, fine}
 use Rattle.cosine.proofs.Turn.{cosine_periodic, sine_periodic, cosine-even, sine_odd}
 use Rattle.cosine.proofs.HalfAngle.{fine_end}
-use Rattle.cosine.proofs.FineTurn.{opposite, Fine-size, fine-size}
+use Rattle.cosine.proofs.FineTurn.{opposite, FineSize, fine-size}
 use Rattle.ints.specs.Cells.{cell}
 use Rattle.spectrum.specs.Distance.{direct_sum}
 use Rattle.spectrum.proofs.Pairs.{whole-steps}
@@ -51,8 +51,8 @@ unfolding cas
 cas-opposite i j m e = ap₂ ◌+ℤ◌ (cosine-even fine i j m e) (sine_odd fine fine_end i j m e)
 
 -- the sum law of cas at k: the angle j + k by way of j and its opposite, within ε
-abbrev pub Cas_near : ℕ → ℕ → Type 0
-Cas_near k ε = (j : ℕ) → nat_abs (cas fine (j + k) *ℤ pos (2 ^ 60) -ℤ (cas fine j *ℤ cosine fine k +ℤ opposite j *ℤ sine fine k)) ≤ ε
+abbrev pub CasNear : ℕ → ℕ → Type 0
+CasNear k ε = (j : ℕ) → nat_abs (cas fine (j + k) *ℤ pos (2 ^ 60) -ℤ (cas fine j *ℤ cosine fine k +ℤ opposite j *ℤ sine fine k)) ≤ ε
 
 -- ---- angles. With n h = 1,024 the angle of sample t at line v is v t h, and nothing is divided.
 
@@ -138,7 +138,7 @@ pub direct_size : (n : ℕ) (x : ℕ → ℤ) (M : ℕ) → ((t : ℕ) → nat_a
 unfolding cas
 direct_size n x M quiet v = sum_abs n (M * (92682 * 2 ^ 44)) _ (λ t k. one (x t) _ _ (quiet t) (fine-size (v * t * 1024 / n % 1024)))
   where
-    one : (a c s : ℤ) → nat_abs a ≤ M → Fine-size c s → nat_abs (a *ℤ (c +ℤ s)) ≤ M * (92682 * 2 ^ 44)
+    one : (a c s : ℤ) → nat_abs a ≤ M → FineSize c s → nat_abs (a *ℤ (c +ℤ s)) ≤ M * (92682 * 2 ^ 44)
     one a c s ha k = rw abs_times (mul-le-mul ha (omega (arith, abs_plus c s, k.pair_size)))
 
 module _ (n h : ℕ) (z : zero < n) (e : n * h ≡ 1024) (x : ℕ → ℤ) (M : ℕ) (quiet : (t : ℕ) → nat_abs (x t) ≤ M) (v : ℕ) where
@@ -152,14 +152,14 @@ module _ (n h : ℕ) (z : zero < n) (e : n * h ≡ 1024) (x : ℕ → ℤ) (M : 
       both c s U h k = let Γ = c ∷ s ∷ [] in
           omega (arith, abs_fact Γ c (search quotes), abs_fact Γ s (search quotes), abs_fact Γ (c +ℤ s) (search quotes), abs_fact Γ (c -ℤ s) (search quotes))
 
-      one : (a c s : ℤ) → nat_abs a ≤ M → Fine-size c s → nat_abs (a *ℤ (c +ℤ s)) + nat_abs (a *ℤ (c -ℤ s)) ≤ M * (2 * 2 ^ 60)
+      one : (a c s : ℤ) → nat_abs a ≤ M → FineSize c s → nat_abs (a *ℤ (c +ℤ s)) + nat_abs (a *ℤ (c -ℤ s)) ≤ M * (2 * 2 ^ 60)
       one a c s ha k = omega (arith, abs_times a (c +ℤ s), abs_times a (c -ℤ s), mul-le-mul ha (both c s (2 ^ 60) k.cosine-size k.sine-size))
 
       widen : (U : ℕ) {w : ℕ} → w ≤ n * (M * (2 * U)) → w ≤ 2 * (n * M) * U
       widen U k = omega arith
 
   -- the sum law at one k, under the sum: what is lost is ε a sample (2^67 in general, 0 where k is a multiple of a quarter turn)
-  pub odd_near : (k ε : ℕ) → Cas_near k ε →
+  pub odd_near : (k ε : ℕ) → CasNear k ε →
       nat_abs (sum n (λ u. x u *ℤ cas fine (v * u * h + k)) *ℤ pos (2 ^ 60)
       -ℤ (direct n x (v % n) *ℤ cosine fine k +ℤ direct n x (mirror n v) *ℤ sine fine k)) ≤ n * (M * ε)
   odd_near k ε law = rw (line-sum n h z e x v, mirror_sum n h z e x v)

@@ -15,7 +15,7 @@ use Rattle.spectrum.specs.Levels.{line}
 use Rattle.spectrum.specs.Distance.{ceiling}
 use Rattle.spectrum.proofs.Step.{step, exact}
 use Rattle.spectrum.proofs.Pairs.{whole-steps}
-use Rattle.spectrum.proofs.DirectSplit.{direct, even_sum, odd_sum, Cas_near, mirror, direct_split, direct_pair_size, odd_near}
+use Rattle.spectrum.proofs.DirectSplit.{direct, even_sum, odd_sum, CasNear, mirror, direct_split, direct_pair_size, odd_near}
 use Rattle.spectrum.proofs.Nearest.{LARGEST_M, Nearest, exact-cosine, exact-sine, exact-quotient}
 
 zero_apart : {y w : ℤ} → y ≡ w → nat_abs (y -ℤ w) ≤ 0
@@ -25,7 +25,7 @@ zero_apart {y} {w} e = rw (e, none) (omega arith)
     none = ring (w ∷ []) (search quotes) tt
 
 -- the sum law at quarter turns, where it is exact
-quarters_exact : (m : ℕ) → Cas_near (m * 256) 0
+quarters_exact : (m : ℕ) → CasNear (m * 256) 0
 quarters_exact m j = zero_apart exactly
   where
     out : (k l c s u : ℤ) → (k *ℤ c +ℤ l *ℤ s) *ℤ u ≡ k *ℤ (c *ℤ u) +ℤ l *ℤ (s *ℤ u)
@@ -37,7 +37,7 @@ quarters_exact m j = zero_apart exactly
 -- halves of n cells, where a turn has 2 n g steps; the 2n samples x, and a line v
 module _ (n g : ℕ) (z : zero < n) (e : 2 * n * g ≡ 1024) (x : ℕ → ℤ) (M : ℕ) (quiet : (t : ℕ) → nat_abs (x t) ≤ M) (v : ℕ) where
   -- the odd moments' part, within ε a sample
-  part_near : (ε : ℕ) → Cas_near (v * g) ε →
+  part_near : (ε : ℕ) → CasNear (v * g) ε →
       nat_abs ((direct (2 * n) x v -ℤ even_sum n x (v % n)) *ℤ pos (2 ^ 60)
       -ℤ (odd_sum n x (v % n) *ℤ cosine fine (v * g) +ℤ odd_sum n x (mirror n v) *ℤ sine fine (v * g))) ≤ n * (M * ε)
   part_near ε law = rw (direct_split n g z e x v, rest (even_sum n x (v % n)) (sum n (λ u. x (2 * u + 1) *ℤ cas fine (v * u * (2 * g) + v * g))))
