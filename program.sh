@@ -13,7 +13,7 @@ output_open() {
 }
 
 # run_program: has the program built, if need be, and runs it on standard input. What it writes goes straight to standard output; what it tells on
-# standard error decides the status, since it has none of its own, but 141 where its reader has gone, of which nothing is told.
+# standard error decides the status, but for 141, which the program answers where its reader has gone, and of which nothing is told.
 run_program() {
     "$here/build" "$name" </dev/null >&2
     exec 3>&1

@@ -32,8 +32,8 @@
  * was. Version 5 has one call more, hartley_bound, and one that reads its answer, hartley_distance; all of version 4 is
  * as it was, and forward keeps within the bound, which is at most what it kept within before. Version 6 has one call
  * more, hartley_smooth, and one refusal more, 20; all of version 5 is as it was. Smoothing takes more stack than the
- * others, so HARTLEY_STACK_BYTES is 40,960, where it was 32,768. Version 7 has one call more, hartley_table; all of
- * version 6 is as it was.
+ * others, so HARTLEY_STACK_BYTES is 40,960, where it was 32,768. hartley_table came after that and is not counted
+ * yet; all of version 6 is as it was.
  */
 #ifndef HARTLEY_H
 #define HARTLEY_H

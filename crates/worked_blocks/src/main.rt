@@ -1,7 +1,7 @@
 // Document 01, Samples worked by hand: those of blocks, run. What is printed is held to the file stdout, which was worked by hand from the document.
 #![tactic(auto)]
 
-ghost use Rattle.std.specs.Prelude.{◌≡◌, ◌^◌, ◌≤◌, length, unsigned_abs};
+ghost use Rattle.std.specs.Prelude.{◌≡◌, ◌^◌, ◌≤◌, length, nat_abs};
 
 use block::{Answer, BlockVerdict};
 use fourier::ScaledLine;
@@ -75,7 +75,7 @@ fn sine_at(rt: &impl Print, step: usize) -> Result<()> {
 
 // The rounding of a level.
 fn rounding_of(rt: &impl Print, x: i64) -> Result<()>
-    requires { unsigned_abs x ≤ 2 ^ 62 }
+    requires { nat_abs x ≤ 2 ^ 62 }
 {
     print_text(rt, b"rounded")?;
     print_signed(rt, x)?;
