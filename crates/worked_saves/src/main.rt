@@ -4,6 +4,7 @@
 #![tactic(auto)]
 
 ghost use Rattle.std.specs.Prelude.{◌≡◌, ◌≤◌, ◌<◌, length, IfOk};
+ghost use Rattle.save_tests.specs.Save.{as_head, saving, trace_left};
 
 use printing::{print_cells, print_line_end, print_refusal, print_text, print_unsigned};
 use save_tests::SaveAnswer;
@@ -177,7 +178,8 @@ fn print_asked(rt: &impl Print, rate: usize, p: usize, room: usize) -> Result<()
     print_text(rt, b" bytes,")
 }
 
-// Prints what save answers, and answers how many of the lent bytes are used: none where it refuses.
+// Prints what save answers, and answers how many of the lent bytes are used: none where it refuses. Where nothing can be printed, too, the bytes are as
+// save leaves them.
 fn answered(
     rt: &impl Print,
     rate: usize,
@@ -185,7 +187,8 @@ fn answered(
     cells: &[i64],
     bytes: &mut [u8],
 ) -> Result<usize>
-    ensures { IfOk result (λ used. used ≤ length bytes.new) }
+    ensures used { IfOk result (λ used. used ≤ length bytes.new) }
+    ensures bytes { bytes.new ≡ trace_left bytes.old (saving (as_head rate p) cells.now (length bytes.old)) }
 {
     let answer = saving::save(rate, p, cells, bytes);
     print_answer(rt, answer)?;

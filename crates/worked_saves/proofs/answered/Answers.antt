@@ -15,5 +15,5 @@ use Rattle.worked_saves.proofs.answered.Goals as goal
 within : (head : Head) (cells : List ℤ) (room used : ℕ) {answer : SaveAnswer} → answer ≡ Saved used → answer ≡ save_answer (saving head cells room) → used ≤ room
 within head cells room used said told = let t = told_saved head cells room used (sym said ∙ told) in omega (arith, t.1.0, t.1.1.fits)
 
-pub returns-in-Saved : goal.returns-in-Saved
-returns-in-Saved g c = omega (arith, within _ _ _ _ c.in-Saved.is c.save-answer.ensures.answer)
+pub returns-in-Saved-clause-used : goal.returns-in-Saved-clause-used
+returns-in-Saved-clause-used g c = omega (arith, within _ _ _ _ c.in-Saved.is c.save-answer.ensures.answer)
