@@ -1,5 +1,5 @@
 -- The tests say what the table of document 01 says: what they find is, in numbers, the first row that is given, or P, or what a call answers by P.
--- Example: `(line_both_ways line xs e).1 : block_numbers r ≡ line_numbers line xs`, with e : r ≡ tested_line line xs.
+-- Example: `(line_both_ways line xs e).numbers : block_numbers r ≡ line_numbers line xs`, with e : r ≡ tested_line line xs.
 use mathlib.Core.Path.{◌≡◌, refl, ◌∙◌, ap}
 use mathlib.Core.Bool.{Bool, true, false}
 use mathlib.Core.List.{List, [], ◌∷◌}
@@ -9,17 +9,17 @@ use borrow.Author.Tests.{ne_eqb}
 use lib.Dec.{eqb, ltb}
 use lib.IntN.{ℤ, pos, neg_ℤ}
 use lib.ListN.{length}
-use Rattle.kind.specs.declared.KindFound.TheVariants.{None}
+use Rattle.std.specs.Prelude.{None, Result, Ok, Err}
 use Rattle.kind.specs.declared.Line.{Line}
 use Rattle.kind.specs.BlockKinds.{exponent, kind_of, kind_numbers}
 use Rattle.kind.specs.Loudness.{LOUDEST_LINE}
 use Rattle.refusal.specs.declared.Refusal.TheVariants.{Length}
 use Rattle.refusal.specs.RefusalTable.{number, place}
-use Rattle.block.specs.declared.BlockVerdict.{BlockVerdict}
-use Rattle.block.specs.declared.BlockVerdict.TheVariants.{Taken, Refused}
 use Rattle.block.specs.Tests.{misfit, first_loud, tested, tested_line}
 use Rattle.block.specs.TestTable.{first_given, refusal_rows, line_numbers}
-use Rattle.block.specs.BlockAnswers.{block_numbers}
+use Rattle.block.specs.BlockAnswers.{block_answer, block_numbers, answer_numbers, verdict_numbers}
+use Rattle.kind.specs.declared.BlockKind.{BlockKind}
+use Rattle.refusal.specs.declared.Refusal.{Refusal}
 
 -- what `kind` says in numerals of a length that no block has is refusal 1
 pub none_numbers : kind_numbers None ≡ number Length ∷ place Length ∷ []
@@ -31,13 +31,13 @@ positive : (m : ℕ) → eqb (suc m) 0 ≡ false
 positive m = ne_eqb (suc m) 0 (λ e. omega arith)
 
 -- the number that f has for P of a block that is taken, or number and place of the first fault; with P itself it is `block_numbers`
-abbrev pub numbers_by : (ℕ → ℕ) → BlockVerdict → List ℕ
-numbers_by f (Taken kind) = f kind.p ∷ []
-numbers_by f (Refused refusal) = number refusal ∷ place refusal ∷ []
+abbrev pub numbers_by : (ℕ → ℕ) → Result BlockKind Refusal → List ℕ
+numbers_by f (Ok kind) = f kind.p ∷ []
+numbers_by f (Err refusal) = number refusal ∷ place refusal ∷ []
 
-by_itself : (k : BlockVerdict) → block_numbers k ≡ numbers_by (λ P. P) k
-by_itself (Taken kind) = refl
-by_itself (Refused refusal) = refl
+by_itself : (k : Result BlockKind Refusal) → block_numbers k ≡ numbers_by (λ P. P) k
+by_itself (Ok kind) = refl
+by_itself (Err refusal) = refl
 
 module _ (f : ℕ → ℕ) (low high : ℤ) (outputs : List ℕ) (xs : List ℤ) where
   by_three : (P : ℕ) (unfit loud : Bool) → exponent 10 (length xs) ≡ P → misfit (length xs / 2 + 1) outputs ≡ unfit → ltb (first_loud low high xs) (length xs) ≡ loud
@@ -67,9 +67,14 @@ module _ (line : Line) (xs : List ℤ) where
 
 -- ---- an answer, and the same in numbers
 
-pub both_ways : {r : BlockVerdict} (low high : ℤ) (outputs : List ℕ) (xs : List ℤ) → r ≡ tested low high outputs xs
-    → (r ≡ tested low high outputs xs) × (block_numbers r ≡ first_given (refusal_rows low high outputs xs) (exponent 10 (length xs)))
-both_ways low high outputs xs e = (e, ap block_numbers e ∙ by_itself (tested low high outputs xs) ∙ numbers_by_lem (λ P. P) low high outputs xs)
+pub answered : (k : Result BlockKind Refusal) → answer_numbers (block_answer k) ≡ verdict_numbers k
+answered (Ok kind) = refl
+answered (Err refusal) = refl
 
-pub line_both_ways : {r : BlockVerdict} (line : Line) (xs : List ℤ) → r ≡ tested_line line xs → (r ≡ tested_line line xs) × (block_numbers r ≡ line_numbers line xs)
-line_both_ways line xs e = (e, ap block_numbers e ∙ by_four line xs _ _ _ refl refl refl)
+pub both_ways : {r : Result BlockKind Refusal} (low high : ℤ) (outputs : List ℕ) (xs : List ℤ) → r ≡ tested low high outputs xs
+    → record { answer : r ≡ tested low high outputs xs; numbers : block_numbers r ≡ first_given (refusal_rows low high outputs xs) (exponent 10 (length xs)) }
+both_ways low high outputs xs e = record { answer = e; numbers = ap block_numbers e ∙ by_itself (tested low high outputs xs) ∙ numbers_by_lem (λ P. P) low high outputs xs }
+
+pub line_both_ways : {r : Result BlockKind Refusal} (line : Line) (xs : List ℤ) → r ≡ tested_line line xs
+    → record { answer : r ≡ tested_line line xs; numbers : block_numbers r ≡ line_numbers line xs }
+line_both_ways line xs e = record { answer = e; numbers = ap block_numbers e ∙ by_four line xs _ _ _ refl refl refl }

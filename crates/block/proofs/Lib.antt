@@ -2,6 +2,7 @@ pub mod Taken
 pub mod Limits
 pub mod Refused
 pub mod FirstLoud
+pub mod Place
 pub mod Looking
 pub mod SamplesTaken
 pub mod InNumbers

@@ -8,15 +8,14 @@ use Prim.Native.Nat.{ℕ, suc, ◌≤◌}
 use native.Mathlib.Omega.{arith}
 use lib.IntN.{ℤ, pos, neg_ℤ, nat_abs, neg_ℤ-neg_ℤ}
 use lib.Signed.{lt_z}
+use Rattle.std.specs.Prelude.{Some, Ok}
 use Rattle.ints.specs.Cells.{cell, negated}
 use Rattle.ints.proofs.Comparisons.{less_negated}
 use Rattle.ints.proofs.Abs.{abs_lower, abs_neg, abs_upper}
 use Rattle.ints.proofs.Negation.{cell-negated, length-negated}
 use Rattle.kind.specs.declared.BlockKind.{BlockKind}
-use Rattle.kind.specs.declared.KindFound.TheVariants.{Found}
 use Rattle.kind.specs.BlockKinds.{kind_of}
 use Rattle.kind.specs.Loudness.{LEAST_SAMPLE, LARGEST_SAMPLE, LOUDEST_LINE}
-use Rattle.block.specs.declared.BlockVerdict.TheVariants.{Taken}
 use Rattle.block.specs.Tests.{first_loud, tested, tested_samples, tested_spectrum}
 use Rattle.block.proofs.Taken.{taken_found, taken_kind, output_none, must_take}
 
@@ -33,13 +32,13 @@ pub spectrum_negated : (outputs : List ℕ) (xs : List ℤ) → tested_spectrum 
 unfolding tested
 spectrum_negated outputs xs = rw (length-negated xs, loud-negated (pos LOUDEST_LINE) xs) refl
 
-pub negative-kind : (xs : List ℤ) (kind other : BlockKind) → tested_samples xs ≡ Taken kind → tested_samples (negated xs) ≡ Taken other → other ≡ kind
+pub negative-kind : (xs : List ℤ) (kind other : BlockKind) → tested_samples xs ≡ Ok kind → tested_samples (negated xs) ≡ Ok other → other ≡ kind
 negative-kind xs kind other e f = same (sym (taken_found _ _ [] (negated xs) other f) ∙ ap kind_of (length-negated xs) ∙ taken_found _ _ [] xs kind e)
   where
-    same : Found other ≡ Found kind → other ≡ kind
+    same : Some other ≡ Some kind → other ≡ kind
     same e = cc
 
-pub negative_taken : (xs : List ℤ) (kind : BlockKind) → tested_samples xs ≡ Taken kind → ((i : ℕ) → nat_abs (cell xs i) ≤ 32767) → tested_samples (negated xs) ≡ Taken kind
+pub negative_taken : (xs : List ℤ) (kind : BlockKind) → tested_samples xs ≡ Ok kind → ((i : ℕ) → nat_abs (cell xs i) ≤ 32767) → tested_samples (negated xs) ≡ Ok kind
 negative_taken xs kind e h = must_take LEAST_SAMPLE LARGEST_SAMPLE kind.p [] (negated xs) (rw (length-negated xs) (taken_kind _ _ [] xs kind e)) (output_none _)
     (λ i. abs_lower {n = 32768} (omega (arith, quiet i))) (λ i. abs_upper (quiet i))
   where

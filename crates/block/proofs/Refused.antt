@@ -1,6 +1,6 @@
 -- What the tests tell where they refuse: a length that no block has is refusal 1 whatever else is lent, outputs matter only by whether they fit, and the
 -- refusal is 1, 2 or 3, at a place of at most 1,024.
--- Example: `refused-place low high outputs xs refusal e : place refusal ≤ LARGEST`, with e : tested low high outputs xs ≡ Refused refusal.
+-- Example: `refused-place low high outputs xs refusal e : place refusal ≤ LARGEST`, with e : tested low high outputs xs ≡ Err refusal.
 use mathlib.Core.Path.{◌≡◌, refl, subst}
 use mathlib.Core.Bool.{Bool, true, false}
 use mathlib.Core.List.{List}
@@ -11,16 +11,14 @@ use lib.Dec.{ltb}
 use lib.IntN.{ℤ}
 use lib.ListN.{length}
 use lib.Pow.{pow_mono}
-use Rattle.block.specs.declared.BlockVerdict.{BlockVerdict}
-use Rattle.block.specs.declared.BlockVerdict.TheVariants.{Taken, Refused}
+use Rattle.std.specs.Prelude.{Option, Some, None, Result, Ok, Err}
 use Rattle.refusal.specs.declared.Refusal.{Refusal}
 use Rattle.refusal.specs.declared.Refusal.TheVariants.{Length, Misfit, Loud}
 use Rattle.refusal.specs.RefusalTable.{number, place}
 use Rattle.kind.specs.BlockKinds.{LARGEST, kind_of}
-use Rattle.kind.specs.declared.KindFound.{KindFound}
-use Rattle.kind.specs.declared.KindFound.TheVariants.{Found, None}
 use Rattle.kind.proofs.Lengths.{KindLength, kind-length, kind_none}
 use Rattle.block.specs.Tests.{of_length, refused_if, misfit, first_loud, tested}
+use Rattle.kind.specs.declared.BlockKind.{BlockKind}
 
 -- a block has 2 cells or more, and not more than the largest
 pub kind-least : {n P : ℕ} → KindLength n P → 2 ≤ n
@@ -31,7 +29,7 @@ kind-largest {n} {P} k = let most : 2 ^ P ≤ 2 ^ 10 = pow_mono k.most in omega 
 
 module _ (low high : ℤ) where
   -- 1, whatever the outputs are
-  pub tested-length : (outputs : List ℕ) (xs : List ℤ) → ((P : ℕ) → KindLength (length xs) P → ⊥) → tested low high outputs xs ≡ Refused Length
+  pub tested-length : (outputs : List ℕ) (xs : List ℤ) → ((P : ℕ) → KindLength (length xs) P → ⊥) → tested low high outputs xs ≡ Err Length
   unfolding tested
   tested-length outputs xs h = rw (kind_none (length xs) h) refl
 
@@ -41,9 +39,9 @@ module _ (low high : ℤ) where
   unfolding tested
   tested_outputs os ps xs h = go (kind_of (length xs)) refl
     where
-      go : (k : KindFound) → kind_of (length xs) ≡ k → refused_if (ltb (first_loud low high xs) (length xs)) (Loud (first_loud low high xs)) (refused_if (misfit (length xs / 2 + 1) os) Misfit (of_length k))
+      go : (k : Option BlockKind) → kind_of (length xs) ≡ k → refused_if (ltb (first_loud low high xs) (length xs)) (Loud (first_loud low high xs)) (refused_if (misfit (length xs / 2 + 1) os) Misfit (of_length k))
           ≡ refused_if (ltb (first_loud low high xs) (length xs)) (Loud (first_loud low high xs)) (refused_if (misfit (length xs / 2 + 1) ps) Misfit (of_length k))
-      go (Found kind) e = rw (h kind.p (kind-length (length xs) kind.p e)) refl
+      go (Some kind) e = rw (h kind.p (kind-length (length xs) kind.p e)) refl
       go None e = refl
 
 -- ---- the place of a refusal
@@ -52,14 +50,14 @@ module _ (low high : ℤ) where
 abbrev pub InBlock : Refusal → Type 0
 InBlock refusal = (number refusal ≤ 3) × (place refusal ≤ LARGEST)
 
-abbrev Placed : BlockVerdict → Type 0
-Placed (Taken kind) = Unit {0}
-Placed (Refused refusal) = InBlock refusal
+abbrev Placed : Result BlockKind Refusal → Type 0
+Placed (Ok kind) = Unit {0}
+Placed (Err refusal) = InBlock refusal
 
-placed_if : (fault : Bool) (refusal : Refusal) (k : BlockVerdict) → Placed k → (fault ≡ true → InBlock refusal) → Placed (refused_if fault refusal k)
-placed_if fault refusal (Refused earlier) h g = h
-placed_if true refusal (Taken kind) h g = g refl
-placed_if false refusal (Taken kind) h g = tt
+placed_if : (fault : Bool) (refusal : Refusal) (k : Result BlockKind Refusal) → Placed k → (fault ≡ true → InBlock refusal) → Placed (refused_if fault refusal k)
+placed_if fault refusal (Err earlier) h g = h
+placed_if true refusal (Ok kind) h g = g refl
+placed_if false refusal (Ok kind) h g = tt
 
 module _ (low high : ℤ) (outputs : List ℕ) (xs : List ℤ) where
   placed : Placed (tested low high outputs xs)
@@ -69,14 +67,14 @@ module _ (low high : ℤ) (outputs : List ℕ) (xs : List ℤ) where
       loud : ℕ
       loud = first_loud low high xs
 
-      go : (k : KindFound) → kind_of (length xs) ≡ k → Placed (refused_if (ltb loud (length xs)) (Loud loud) (refused_if (misfit (length xs / 2 + 1) outputs) Misfit (of_length k)))
-      go (Found kind) e = let unfit = misfit (length xs / 2 + 1) outputs in
-          placed_if (ltb loud (length xs)) (Loud loud) (refused_if unfit Misfit (Taken kind)) (placed_if unfit Misfit (Taken kind) tt (λ t. (omega arith, omega arith)))
+      go : (k : Option BlockKind) → kind_of (length xs) ≡ k → Placed (refused_if (ltb loud (length xs)) (Loud loud) (refused_if (misfit (length xs / 2 + 1) outputs) Misfit (of_length k)))
+      go (Some kind) e = let unfit = misfit (length xs / 2 + 1) outputs in
+          placed_if (ltb loud (length xs)) (Loud loud) (refused_if unfit Misfit (Ok kind)) (placed_if unfit Misfit (Ok kind) tt (λ t. (omega arith, omega arith)))
           (λ t. (omega arith, omega (arith, ltb-true loud (length xs) t, kind-largest (kind-length (length xs) kind.p e))))
       go None e = (omega arith, omega arith)
 
-  pub refused_in_block : (refusal : Refusal) → tested low high outputs xs ≡ Refused refusal → InBlock refusal
+  pub refused_in_block : (refusal : Refusal) → tested low high outputs xs ≡ Err refusal → InBlock refusal
   refused_in_block refusal e = subst Placed e placed
 
-  pub refused-place : (refusal : Refusal) → tested low high outputs xs ≡ Refused refusal → place refusal ≤ LARGEST
+  pub refused-place : (refusal : Refusal) → tested low high outputs xs ≡ Err refusal → place refusal ≤ LARGEST
   refused-place refusal e = (refused_in_block refusal e).1

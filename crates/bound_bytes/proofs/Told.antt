@@ -8,28 +8,28 @@ use Prim.Native.Nat.{ℕ}
 use native.Mathlib.Omega.{arith}
 use borrow.Author.Tests.{eq-eqb}
 use lib.IntN.{ℤ}
+use Rattle.std.specs.Prelude.{Result, Ok, Err}
+use Rattle.kind.specs.declared.BlockKind.{BlockKind}
 use Rattle.kind.specs.Loudness.{LEAST_SAMPLE, LARGEST_SAMPLE}
-use Rattle.block.specs.declared.BlockVerdict.{BlockVerdict}
-use Rattle.block.specs.declared.BlockVerdict.TheVariants.{Taken, Refused}
+use Rattle.refusal.specs.declared.Refusal.{Refusal}
 use Rattle.block.specs.Tests.{tested_samples}
 use Rattle.block.proofs.Refused.{refused-place}
-use Rattle.distance.specs.declared.BoundAnswer.TheVariants.{Bound}
 use Rattle.distance.specs.BoundAnswers.{bound_answer, bound_numbers, bound_to}
 use Rattle.distance.proofs.Answered.{answered_numbers, taken_bound}
 use Rattle.packing.specs.Packing.{distance_in, number_in, packed_bound, unpacked_bound}
-use Rattle.packing.proofs.Packing.{BoundFits, bound_unpacked, refused_at_all, seven_bytes}
+use Rattle.packing.proofs.Packing.{SevenBytes, bound_unpacked, refused_at_all, seven_bytes}
 
 module _ (xs : List ℤ) where
-  fits : (k : BlockVerdict) → tested_samples xs ≡ k → BoundFits (bound_to xs k)
-  fits (Taken kind) e = taken_bound xs kind e
-  fits (Refused refusal) e = omega (arith, refused-place LEAST_SAMPLE LARGEST_SAMPLE [] xs refusal e)
+  fits : (k : Result BlockKind Refusal) → tested_samples xs ≡ k → SevenBytes (bound_to xs k)
+  fits (Ok kind) e = taken_bound xs kind e
+  fits (Err refusal) e = omega (arith, refused-place LEAST_SAMPLE LARGEST_SAMPLE [] xs refusal e)
 
   -- an answer that refuses nothing is the bound of the block
-  by_tests : (k : BlockVerdict) → tested_samples xs ≡ k → {answer : ℕ} → answer ≡ packed_bound (bound_to xs k) → number_in answer ≡ 0 → bound_to xs k ≡ Bound (distance_in answer)
-  by_tests (Taken kind) e f none = ap Bound (sym (seven_bytes _ (taken_bound xs kind e)).1 ∙ ap distance_in (sym f))
-  by_tests (Refused refusal) e f none = absurd (true≢false (sym (eq-eqb _ 0 (sym (ap number_in f) ∙ none)) ∙ refused_at_all refusal))
+  by_tests : (k : Result BlockKind Refusal) → tested_samples xs ≡ k → {answer : ℕ} → answer ≡ packed_bound (bound_to xs k) → number_in answer ≡ 0 → bound_to xs k ≡ Ok (distance_in answer)
+  by_tests (Ok kind) e f none = ap Ok (sym (seven_bytes _ (taken_bound xs kind e)).1 ∙ ap distance_in (sym f))
+  by_tests (Err refusal) e f none = absurd (true≢false (sym (eq-eqb _ 0 (sym (ap number_in f) ∙ none)) ∙ refused_at_all refusal))
 
-  pub answered_so : {answer : ℕ} → answer ≡ packed_bound (bound_answer xs) → number_in answer ≡ 0 → bound_answer xs ≡ Bound (distance_in answer)
+  pub answered_so : {answer : ℕ} → answer ≡ packed_bound (bound_answer xs) → number_in answer ≡ 0 → bound_answer xs ≡ Ok (distance_in answer)
   unfolding bound_answer
   answered_so e none = by_tests (tested_samples xs) refl e none
 

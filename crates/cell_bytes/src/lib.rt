@@ -7,8 +7,14 @@ ghost use Rattle.little_endian.specs.Reading.{signeds};
 ghost use Rattle.little_endian.specs.Spelling.{spelled_signed};
 ghost use Rattle.cell_bytes.specs.CellBytes.{CELL, cell_at, cell_count, decoded, encoded, fit_count};
 
+mod lent;
+
+pub use lent::LentCells;
+
 // The bytes of a cell.
 pub const CELL: usize = 8;
+
+// 0 is a count here and no mark: so many cells are read, and each call refuses a list of none by its own tests, as the definitions say.
 
 // The number of cells that so many bytes are read as: 0, which no call on a block or a list takes, where a byte is left over or there are more than the most.
 pub fn cell_count(most: usize, bytes: usize) -> usize
@@ -51,10 +57,8 @@ fn decode_all(bytes: &[u8], cells: &mut [i64])
     requires { length bytes.now ≡ CELL * length cells.old }
     ensures { cells.new ≡ signeds CELL (length cells.old) bytes.now }
 {
-    let mut i = 0;
-    while i < cells.len() {
-        cells[i] = cell_at(bytes, i);
-        i += 1;
+    for (i, cell) in cells.iter_mut().enumerate() {
+        *cell = cell_at(bytes, i);
     }
 }
 
@@ -74,10 +78,8 @@ pub fn encode(cells: &[i64], bytes: &mut [u8])
     if bytes.len() != CELL * cells.len() {
         return;
     }
-    let mut i = 0;
-    while i < cells.len() {
-        put_cell(cells[i], bytes, CELL * i);
-        i += 1;
+    for (i, cell) in cells.iter().enumerate() {
+        put_cell(*cell, bytes, CELL * i);
     }
 }
 
@@ -86,5 +88,5 @@ pub fn put_cell(x: i64, bytes: &mut [u8], at: usize) -> usize
     requires { at + CELL ≤ length bytes.old }
     ensures { Put (spelled_signed CELL x) bytes.old at bytes.new result × (result ≡ at + CELL) }
 {
-    little_endian::put_64(little_endian::word_of_signed(x), bytes, at)
+    little_endian::put::<CELL>(little_endian::word_of_signed(x), bytes, at)
 }

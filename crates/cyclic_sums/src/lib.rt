@@ -11,7 +11,8 @@ pub const SHORT: usize = 32;
 // The cells of as many weights backwards, twice.
 const SHORT_TWICE: usize = 2 * SHORT;
 
-// The cyclic sums of the samples in the cells and of the weights, in the samples' place.
+// The cyclic sums of the samples in the cells and of the weights, in the samples' place. The rooms are arrays, since there is no heap; that they suffice is asked
+// of each list by itself.
 pub fn sum_cells(cells: &mut [i64], weights: &[i64])
     requires { (length cells.old ≤ SHORT) × Short cells.old weights.now }
     ensures { cells.new ≡ cyclic_sums cells.old weights.now }
@@ -23,16 +24,12 @@ pub fn sum_cells(cells: &mut [i64], weights: &[i64])
     fill_sums(samples, weights, &mut turned[..2 * cells.len()], cells);
 }
 
-// Copies the samples.
+// Copies the samples: std's copy, under the name by which docs/PROMISES.md has it.
 pub fn copy(from: &[i64], to: &mut [i64])
     requires { length to.old ≡ length from.now }
     ensures { to.new ≡ from.now }
 {
-    let mut i = 0;
-    while i < from.len() {
-        to[i] = from[i];
-        i += 1;
-    }
+    to.copy_from_slice(from);
 }
 
 // The cyclic sums of the samples and of the weights, with room for the weights backwards, twice.
@@ -51,12 +48,10 @@ fn turn_back(weights: &[i64], turned: &mut [i64])
     ensures { turned.new ≡ turned_back weights.now }
 {
     let n = weights.len();
-    let mut i = 0;
-    while i < n {
+    for i in 0..n {
         let weight = weights[n - 1 - i];
         turned[i] = weight;
         turned[n + i] = weight;
-        i += 1;
     }
 }
 
@@ -66,11 +61,9 @@ fn slide(samples: &[i64], turned: &[i64], sums: &mut [i64])
     ensures { sums.new ≡ slid_sums samples.now turned.now }
 {
     let n = samples.len();
-    let mut t = 0;
-    while t < n {
+    for (t, sum) in sums.iter_mut().enumerate() {
         let start = n - 1 - t;
-        sums[t] = dot(samples, &turned[start..start + n]);
-        t += 1;
+        *sum = dot(samples, &turned[start..start + n]);
     }
 }
 
@@ -80,10 +73,8 @@ fn dot(samples: &[i64], factors: &[i64]) -> i64
     ensures { result ≡ dot_product samples.now factors.now }
 {
     let mut sum = 0;
-    let mut i = 0;
-    while i < samples.len() {
-        sum += samples[i] * factors[i];
-        i += 1;
+    for (i, sample) in samples.iter().enumerate() {
+        sum += *sample * factors[i];
     }
     sum
 }

@@ -14,13 +14,12 @@ use lib.Dec.{eqb, ltb}
 use lib.IntN.{ℤ}
 use lib.ListN.{length, drop, length-drop}
 use lib.Seq.{drop-drop}
+use Rattle.std.specs.Prelude.{Option, Some, None}
 use Rattle.refusal.specs.declared.Refusal.{Refusal}
 use Rattle.refusal.specs.declared.Refusal.TheVariants.{Long, Cut, Kind, Size, Head as BadHead, Headless, SecondHead, Tail}
 use Rattle.refusal.specs.RefusalTable.{number, place}
 use Rattle.little_endian.specs.Reading.{Bytes}
 use Rattle.record.specs.declared.Head.{Head}
-use Rattle.record.specs.declared.Stage.{Stage}
-use Rattle.record.specs.declared.Stage.TheVariants.{Start, Headed}
 use Rattle.record.specs.Fields.{HEAD, NOTE, END, PREFIX, kind, record_bytes, following, head_in}
 use Rattle.record.specs.Tests.{outside, headless, second_head, Test, verdict, tests}
 use Rattle.record.proofs.PassedRecords.{not_outside}
@@ -84,25 +83,25 @@ module _ (trace : List ℕ) where
 
   module _ (a : Former) (b : Contents) (h : Alike a b) where
     -- its tests after 17 and 18
-    sized_on : (stage : Stage) (at : ℕ) (rest : List ℕ) → (PREFIX < length rest → at + PREFIX < length trace)
-        → Alike (unless (drop 3 (former_tests stage at rest)) a) (unless_fault (verdict (drop 4 (tests stage at rest))) b)
+    sized_on : (before : Option Head) (at : ℕ) (rest : List ℕ) → (PREFIX < length rest → at + PREFIX < length trace)
+        → Alike (unless (drop 3 (former_tests before at rest)) a) (unless_fault (verdict (drop 4 (tests before at rest))) b)
     unfolding tests
-    sized_on stage at rest l =
+    sized_on before at rest l =
         same a b _ _ _ (λ sized. same a b _ _ _ (λ whole. same a b _ _ _ (λ right. for_13 a b _ _ _ (λ none. no_more a b h)
         (Tail (at + PREFIX)) (λ t. behind (at + PREFIX) (l (ltb-true PREFIX (length rest) ((both (eqb (kind rest) END) (ltb PREFIX (length rest))).0 t).1)))) (BadHead at) (omega arith)) (Cut at) (omega arith)) (Size at) (omega arith)
 
     -- the first one
-    first_record : Alike (unless (former_tests Start 0 trace) a) (unless_fault (verdict (tests Start 0 trace)) b)
+    first_record : Alike (unless (former_tests None 0 trace) a) (unless_fault (verdict (tests None 0 trace)) b)
     unfolding tests headless second_head
     first_record =
-        same a b _ _ _ (λ six. same a b _ _ _ (λ known. for_13 a b _ _ _ (λ headed. idle a b _ _ (SecondHead 0) (sized_on Start 0 trace (λ l. l)))
+        same a b _ _ _ (λ six. same a b _ _ _ (λ known. for_13 a b _ _ _ (λ headed. idle a b _ _ (SecondHead 0) (sized_on None 0 trace (λ l. l)))
         (Headless 0) (λ other. first (ltb-false _ _ six) (above_head (kind trace) known other))) (Kind 0) (omega arith)) (Cut 0) (omega arith)
 
     -- one after the head, at byte `at`
-    later_record : (head : Head) (at : ℕ) → 1 ≤ at → let rest = drop at trace in Alike (unless (former_tests (Headed head) at rest) a) (unless_fault (verdict (tests (Headed head) at rest)) b)
+    later_record : (head : Head) (at : ℕ) → 1 ≤ at → let rest = drop at trace in Alike (unless (former_tests (Some head) at rest) a) (unless_fault (verdict (tests (Some head) at rest)) b)
     unfolding tests headless second_head
     later_record head at l = let rest = drop at trace in
-        same a b _ _ _ (λ six. same a b _ _ _ (λ known. idle a b _ _ (Headless at) (for_13 a b _ _ _ (λ only. sized_on (Headed head) at rest (λ long. omega (arith, length-drop at trace)))
+        same a b _ _ _ (λ six. same a b _ _ _ (λ known. idle a b _ _ (Headless at) (for_13 a b _ _ _ (λ only. sized_on (Some head) at rest (λ long. omega (arith, length-drop at trace)))
         (SecondHead at) (λ is-head. again at l (omega (arith, ltb-false (length rest) PREFIX six, length-drop at trace)) (eqb-true _ _ is-head)))) (Kind at) (omega arith)) (Cut at) (omega arith)
 
   -- ---- all of them
@@ -126,7 +125,7 @@ module _ (trace : List ℕ) where
   alike : Alike (formerly trace) (contents trace)
   unfolding formerly contents records
   alike = let rest = following trace in let head = head_in trace in let at = record_bytes trace in
-      same (former.walk (length rest) head at rest) (now.walk (length rest) head at rest) (ltb LONGEST (length trace)) (former_tests Start 0 trace) _
+      same (former.walk (length rest) head at rest) (now.walk (length rest) head at rest) (ltb LONGEST (length trace)) (former_tests None 0 trace) _
       (λ short. first_record _ _ (later_records (length rest) head at (omega arith))) Long (omega arith)
 
   -- ---- what stands before the place of 18 and of 19
@@ -152,5 +151,5 @@ module _ (trace : List ℕ) where
     where
       go : {a : Former} {b : Contents} → Alike a b → (a ≡ held head blocks) ↔ (b ≡ holds head blocks)
       go (accepted h bs) = (λ e. let one : h ≡ head = cc in let other : bs ≡ blocks = cc in ap₂ holds one other, λ e. let one : h ≡ head = cc in let other : bs ≡ blocks = cc in ap₂ held one other)
-      go (unchanged refusal small) = (λ e. let z : ◌≡◌ {A = ℕ} 0 1 = cc in absurd (omega arith), λ e. let z : ◌≡◌ {A = ℕ} 0 1 = cc in absurd (omega arith))
-      go (parted refusal s) = (λ e. let z : ◌≡◌ {A = ℕ} 0 1 = cc in absurd (omega arith), λ e. let z : ◌≡◌ {A = ℕ} 0 1 = cc in absurd (omega arith))
+      go (unchanged refusal small) = (λ e. absurd (cc), λ e. let z : ◌≡◌ {A = ℕ} 0 1 = cc in absurd (omega arith))
+      go (parted refusal s) = (λ e. absurd (cc), λ e. let z : ◌≡◌ {A = ℕ} 0 1 = cc in absurd (omega arith))

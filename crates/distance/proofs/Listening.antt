@@ -1,21 +1,23 @@
 -- Cells gone through one by one: none before cell i is loud, and the largest magnitude so far and that of the cells that are left are together that of all.
--- Example: `going_all g h (omega arith) refl : Listened xs heard`, with g : Going xs heard.largest i and h : length xs ≤ i.
-use mathlib.Core.Path.{◌≡◌, ◌∙◌}
+-- Example: `going_all g h : Ok largest ≡ heard xs`, with g : Going xs largest i and h : length xs ≤ i.
+use mathlib.Core.Path.{◌≡◌, refl}
 use mathlib.Core.Bool.{Bool, true, false}
 use mathlib.Core.List.{List}
 use Prim.Native.Nat.{ℕ, ◌+◌, ◌≤◌, ◌<◌, max}
 use native.Mathlib.Numerals.{add-one}
 use native.Mathlib.Omega.{arith}
+use borrow.Author.Tests.{le-ltb, lt-ltb}
 use lib.IntN.{ℤ, pos, nat_abs}
 use lib.ListN.{length, drop, drop_of_length-le}
 use lib.Seq.{drop-cons}
+use Rattle.std.specs.Prelude.{Ok, Err}
 use Rattle.ints.specs.Cells.{cell}
+use Rattle.refusal.specs.declared.Refusal.TheVariants.{Loud}
 use Rattle.kind.specs.Loudness.{LEAST_SAMPLE, LARGEST_SAMPLE}
 use Rattle.block.specs.Tests.{loud}
 use Rattle.block.proofs.Looking.{Looked, looked_all, looked-loud, looked_none, looked-quiet}
 use Rattle.spectrum.specs.Distance.{largest_magnitude}
-use Rattle.distance.specs.declared.Heard.{Heard}
-use Rattle.distance.specs.Inner.{Listened}
+use Rattle.distance.specs.Inner.{heard}
 
 pub record Going (xs : List ℤ) (largest i : ℕ) : Type 0 where
   pub quiet : Looked LEAST_SAMPLE LARGEST_SAMPLE xs i
@@ -34,9 +36,11 @@ module _ {xs : List ℤ} {largest i : ℕ} (g : Going xs largest i) where
     pub going_on : r ≡ false → {m j : ℕ} → m ≡ max largest (nat_abs x) → j ≡ i + 1 → Going xs m j
     going_on t em ej = record { quiet = looked-quiet g.quiet h e ex t ej; so_far = rw (em, ex, ej) (omega (arith, g.so_far, next_cell h)) }
 
-    pub going_loud : r ≡ true → {heard : Heard} → heard.samples ≡ i → Listened xs heard
-    going_loud t f = let first = looked-loud g.quiet h e ex t in record { first = f ∙ first; largest = λ all. absurd (omega arith) }
+    pub going_loud : r ≡ true → Err (Loud i) ≡ heard xs
+    unfolding heard
+    going_loud t = let first = looked-loud g.quiet h e ex t in rw (← first, lt-ltb i (length xs) h) refl
 
-  pub going_all : length xs ≤ i → {heard : Heard} → heard.samples ≡ i → heard.largest ≡ largest → Listened xs heard
-  unfolding largest_magnitude
-  going_all h f l = record { first = f ∙ looked_all g.quiet h; largest = λ all. omega (arith, rw (drop_of_length-le xs h) at g.so_far) }
+  pub going_all : length xs ≤ i → Ok largest ≡ heard xs
+  unfolding heard largest_magnitude
+  going_all h = let last = looked_all g.quiet h in let all : largest_magnitude xs ≡ largest = omega (arith, rw (drop_of_length-le xs h) at g.so_far) in
+      rw (← last, le-ltb i (length xs) h, all) refl

@@ -1,5 +1,5 @@
 -- What the levels of an exact spectrum ask of their callers and leave. It stands in no public promise.
-use Rattle.std.specs.Prelude.{◌≡◌, List, ℕ, ◌*◌, ◌-◌, ◌%◌, ◌^◌, ◌≤◌, ℤ, length}
+use Rattle.std.specs.Prelude.{◌≡◌, List, ℕ, ◌+◌, ◌*◌, ◌-◌, ◌%◌, ◌^◌, ◌≤◌, ℤ, length}
 use Rattle.spectrum.specs.Levels.{joined, levels, transformed}
 use Rattle.turns.specs.Turn.{CHOSEN, cosine_at, sine_at}
 use Rattle.exact_pair.specs.Pair.{FIRST, NoneAbove, quarter_of}
@@ -38,14 +38,12 @@ pub record LaterReady (P : ℕ) (quarter xs : List ℤ) : Type 0 where
   pub at_quarter : quarter ≡ quarter_of (P - 2)
   pub small : NoneAbove (4 * FIRST) xs
 
--- a level over halves of n = 2 · 2^l cells, in which line v takes entry v × stride of 2^t + 1
-pub record LevelReady (n stride : ℕ) (quarter xs : List ℤ) : Type 0 where
-  pub l : ℕ
+-- a level over halves of 2^l cells, by 2^t + 1 entries
+pub record LevelReady (l : ℕ) (quarter xs : List ℤ) : Type 0 where
+  pub least : 1 ≤ l
   pub t : ℕ
-  pub within : l ≤ t
+  pub within : l ≤ t + 1
   pub most : t ≤ 8
-  pub halves : n ≡ 2 * 2 ^ l
-  pub strides : stride ≡ 2 ^ (t - l)
   pub at_quarter : quarter ≡ quarter_of t
-  pub whole : length xs % (2 * n) ≡ 0
-  pub small : NoneAbove (n * FIRST) xs
+  pub whole : length xs % (2 * 2 ^ l) ≡ 0
+  pub small : NoneAbove (2 ^ l * FIRST) xs

@@ -9,20 +9,18 @@ ghost use Rattle.exact_pair.specs.Pair.{FIRST, Factors, PairReady, Quad, Stands,
 
 // The lines of two joined halves, the second behind the first. Lines 0 and n/2 of each half need no product; of the others, lines v, n - v, n + v and
 // 2n - v have the same four cells, and line v takes entry v × stride of the quarter's cosines.
+// It has the shape of `pair::join`, and stays beside it: there a line is a rounded quotient at a scale, here it stands for a sum that is folded.
 pub fn join(cells: &mut [i64], quarter: &[i64], stride: usize)
     requires { PairReady stride quarter.now cells.old }
     ensures { Stands (length cells.old * FIRST) (length cells.old) (exact_line (length cells.old / 2) (cell cells.old)) cells.new }
 {
     let n = cells.len() / 2;
     let last = quarter.len() - 1;
-    let mut v = 1;
-    let mut entry = stride;
-    while v < n / 2 {
+    for v in 1..n / 2 {
+        let entry = v * stride;
         let cosine = quarter[entry];
         let sine = quarter[last - entry];
         join_quad(cells, n, v, cosine, sine);
-        v += 1;
-        entry += stride;
     }
     pair::join_plain(cells, n, 0);
     pair::join_plain(cells, n, n / 2);

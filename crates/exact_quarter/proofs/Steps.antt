@@ -14,7 +14,6 @@ use Rattle.turns.proofs.Turning.{steps-below}
 use Rattle.turns.proofs.Chosen.{chosen_turn, cosine_quarter, sine_quarter}
 use Rattle.turns.proofs.Angles.{sine_by_cosine}
 use Rattle.exact_pair.specs.Pair.{cosine_step, sine_step}
-use Rattle.exact_quarter.specs.Stepping.{TwoAngles}
 
 -- ---- how small they are
 
@@ -68,15 +67,11 @@ pub record AtStep (j : ℕ) (c s : ℤ) : Type 0 where
   pub cosine : c ≡ cosine_step j
   pub sine : s ≡ sine_step j
 
-module _ {i j : ℕ} {a b c d : ℤ} (one : AtStep i a b) (other : AtStep j c d) where
-  pub on_turn : TwoAngles a b c d
-  on_turn = record {
-    first-cosine = rw one.cosine (cosine-small i);
-    first-sine = rw one.sine (sine-small i);
-    second-cosine = rw other.cosine (cosine-small j);
-    second-sine = rw other.sine (sine-small j);
-  }
+module _ {j : ℕ} {c s : ℤ} (at : AtStep j c s) where
+  pub at_small : (nat_abs c ≤ 2 ^ 30) × (nat_abs s ≤ 2 ^ 30)
+  at_small = (rw at.cosine (cosine-small j), rw at.sine (sine-small j))
 
+module _ {i j : ℕ} {a b c d : ℤ} (one : AtStep i a b) (other : AtStep j c d) where
   pub step_next : {x y : ℤ} → x ≡ centred (residue (a *ℤ c -ℤ b *ℤ d)) → y ≡ centred (residue (a *ℤ d +ℤ b *ℤ c)) → (n : ℕ) → n ≡ i + j → AtStep n x y
   step_next h k n e = record {
     cosine = h ∙ rw (one.cosine, one.sine, other.cosine, other.sine, e) (cosine_next i j);

@@ -1,58 +1,44 @@
--- A loop that fills a list with a value of each line from 0 to N/2. The value is g of H(v) and H(N − v), and the loop goes along with the mirror of line v.
--- Example: `next-filled a l h ..` takes the loop from line v to the next, with l : LinesFilled g xs lines v mirror and h : v < length lines.
-use mathlib.Core.Path.{◌≡◌, ◌∙◌, ap₂}
+-- A list that is filled with a value of each line from 0 to N/2, which is made of H(v) and H(N − v). What is made of the two need not be a function of them:
+-- Q h m r says that r may be made of h and m.
+-- Example: `filled_more Q xs lines v x h F q` takes the lines below v to those below v + 1, with h : v < length lines and q : Q (H xs v) (H xs (length xs - v)) x.
+use mathlib.Core.Path.{◌≡◌, ◌∙◌, subst, sym}
 use mathlib.Core.List.{List}
-use Prim.Native.Nat.{ℕ, ◌+◌, ◌-◌, ◌/◌, ◌%◌, ◌≤◌, ◌<◌}
+use Prim.Native.Nat.{ℕ, ◌+◌, ◌-◌, ◌/◌, ◌<◌}
+use native.Mathlib.Nat.{lt_irrefl}
 use native.Mathlib.Omega.{arith}
+use borrow.Author.Count.{below_more}
 use lib.IntN.{ℤ, pos}
-use lib.ListN.{length, set, length-set}
+use lib.ListN.{length, set}
+use lib.Seq.{get_or-set_same, get_or-set_other}
 use mir.Facts.{to_z-of_z}
 use mir.Syntax.{w64}
 use mir.Val.{SFits, to_z, of_z}
 use Rattle.ints.specs.Cells.{cell}
 use Rattle.ints.specs.Tabulate.{tabulate}
-use Rattle.ints.proofs.Filling.{Filled, filled_then, filled_all}
-use Rattle.ints.proofs.Mirror.{mirror_first, mirror_later, mirror_in}
+use Rattle.ints.proofs.Filling.{filled_all}
 use Rattle.block.specs.Transformable.{Transformable}
 use Rattle.fourier.specs.Parts.{H}
-use Rattle.fourier.proofs.Lines.{two_or_more, line-back, line_at, mirror_at}
+use Rattle.fourier.proofs.Lines.{line-back}
 
--- the value of line v
-abbrev pub of_line : (ℤ → ℤ → ℤ) → List ℤ → ℕ → ℤ
-of_line g xs v = g (H xs v) (H xs (length xs - v))
+-- the lines below v stand
+abbrev pub LinesFilled : (ℤ → ℤ → ℤ → Type 0) → List ℤ → List ℤ → ℕ → Type 0
+LinesFilled Q xs lines v = (k : ℕ) → k < v → Q (H xs k) (H xs (length xs - k)) (cell lines k)
 
--- the lines below v stand, and `mirror` is the place of H(N − v)
-pub record LinesFilled (g : ℤ → ℤ → ℤ) (xs lines : List ℤ) (v mirror : ℕ) : Type 0 where
-  pub inside : v ≤ length lines
-  pub mirrored : mirror ≡ (length xs - v) % length xs
-  pub many : length lines ≡ length xs / 2 + 1
-  pub filled : Filled (pos 0) (of_line g xs) v lines
+module _ (Q : ℤ → ℤ → ℤ → Type 0) (xs : List ℤ) where
+  pub none_filled : (lines : List ℤ) → LinesFilled Q xs lines 0
+  none_filled lines k h = absurd (omega arith)
 
-module _ {P : ℕ} {g : ℤ → ℤ → ℤ} {xs lines : List ℤ} (a : Transformable P xs) where
-  pub none_filled : {v mirror : ℕ} → v ≡ 0 → mirror ≡ 0 → length lines ≡ length xs / 2 + 1 → LinesFilled g xs lines v mirror
-  none_filled ev em e = record { inside = omega arith; mirrored = mirror_first _ _ _ ev em; many = e; filled = λ k h. absurd (omega arith) }
+  pub filled_more : (lines : List ℤ) (v : ℕ) (x : ℤ) → v < length lines → LinesFilled Q xs lines v → Q (H xs v) (H xs (length xs - v)) x → LinesFilled Q xs (set lines v x) (v + 1)
+  filled_more lines v x h F q = below_more (λ k. Q (H xs k) (H xs (length xs - k)) (cell (set lines v x) k)) v
+      (λ k l. subst (Q (H xs k) (H xs (length xs - k))) (sym (get_or-set_other lines v k x (pos 0) (λ e. lt_irrefl v (subst (λ (n : ℕ). n < v) e l)))) (F k l))
+      (subst (Q (H xs v) (H xs (length xs - v))) (sym (get_or-set_same lines v x (pos 0) h)) q)
 
-  module _ {v mirror : ℕ} (l : LinesFilled g xs lines v mirror) where
-    pub all_filled : length lines ≤ v → lines ≡ tabulate (length xs / 2 + 1) (of_line g xs)
-    all_filled h = filled_all (pos 0) (of_line g xs) lines (length xs / 2 + 1) l.many (λ k j. l.filled k (omega arith))
+  -- r, which is made of what the machine reads of cells i and j, is made of line v and its mirror, and is written
+  pub line_written : {P : ℕ} → Transformable P xs → {r : ℤ} (i j v : ℕ) → SFits w64 r → cell xs i ≡ H xs v → cell xs j ≡ H xs (length xs - v)
+      → Q (to_z w64 (of_z w64 (cell xs i))) (to_z w64 (of_z w64 (cell xs j))) r → Q (H xs v) (H xs (length xs - v)) (to_z w64 (of_z w64 r))
+  line_written a i j v f ei ej q = rw (to_z-of_z f) (rw (line-back a i ∙ ei, line-back a j ∙ ej) at q)
 
-    module _ (h : v < length lines) where
-      -- line v lies in the spectrum, and so does its mirror
-      pub line-in : v < length xs
-      line-in = omega (arith, two_or_more a)
-
-      pub mirror-within : mirror < length xs
-      mirror-within = mirror_in (length xs) v mirror (omega (arith, two_or_more a)) l.mirrored
-
-      -- r is what g makes of what is read of the two, and is written
-      pub next-filled : {r : ℤ} {k next m : ℕ} → SFits w64 r → r ≡ g (to_z w64 (of_z w64 (cell xs v))) (to_z w64 (of_z w64 (cell xs mirror))) → k ≡ v → next ≡ v + 1 → m ≡ length xs - next
-          → LinesFilled g xs (set lines k (to_z w64 (of_z w64 r))) next m
-      next-filled {r} {k} {next} {m} f e ek en em = record {
-        inside = simp length-set (omega arith);
-        mirrored = mirror_later (length xs) next m (omega arith) (omega (arith, line-in)) em;
-        many = simp length-set l.many;
-        filled = filled_then (pos 0) (of_line g xs) lines v k next _ h value ek en l.filled;
-      }
-        where
-          value : to_z w64 (of_z w64 r) ≡ of_line g xs v
-          value = to_z-of_z f ∙ e ∙ ap₂ g (line-back a v ∙ line_at xs v line-in) (line-back a mirror ∙ mirror_at xs v mirror l.mirrored)
+-- every line stands, and each is g of the two
+pub all_filled : (g : ℤ → ℤ → ℤ) (xs lines : List ℤ) → length lines ≡ length xs / 2 + 1 → LinesFilled (λ h m r. r ≡ g h m) xs lines (length lines)
+    → lines ≡ tabulate (length xs / 2 + 1) (λ v. g (H xs v) (H xs (length xs - v)))
+all_filled g xs lines e F = filled_all (pos 0) (λ v. g (H xs v) (H xs (length xs - v))) lines (length xs / 2 + 1) e (λ k h. F k (omega arith))

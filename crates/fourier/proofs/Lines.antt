@@ -31,6 +31,10 @@ module _ {P : ℕ} {xs : List ℤ} (a : Transformable P xs) where
   pub line_quiet : (i : ℕ) → nat_abs (to_z w64 (of_z w64 (cell xs i))) ≤ LOUDEST_LINE
   line_quiet i = rw (line-back i) (a.quiet i)
 
+-- what the machine reads of a line is no louder
+pub read_quiet : (x : ℤ) → nat_abs x ≤ LOUDEST_LINE → nat_abs (to_z w64 (of_z w64 x)) ≤ LOUDEST_LINE
+read_quiet x h = rw (to_z-of_z (line_fits x h)) h
+
 -- ---- H(N) is read as H(0): line N − v is cell (N − v) mod N
 
 pub line_at : (xs : List ℤ) (v : ℕ) → v < length xs → cell xs v ≡ H xs v

@@ -1,7 +1,7 @@
 -- The f64 of a scaled line are its quotients exactly: N and 2N are powers of two, and a doubled part is at most 2^29 in size, far below 2^53.
 use mathlib.Core.Path.{◌≡◌, refl, sym, ap, ◌∙◌}
 use mathlib.Core.Bool.{Bool, true, false, cond}
-use mathlib.Core.List.{List, []}
+use mathlib.Core.List.{List}
 use Prim.Native.Nat.{ℕ, suc, ◌-◌, ◌*◌, ◌/◌, ◌%◌, ◌^◌, ◌≤◌}
 use native.Mathlib.Nat.{pow-succ'}
 use native.Mathlib.Omega.{arith}
@@ -9,12 +9,13 @@ use borrow.Author.Tests.{eqb-true, eqb-false}
 use lib.Dec.{eqb}
 use lib.IntN.{ℤ, nat_abs}
 use lib.ListN.{length}
+use Rattle.std.specs.Prelude.{Ok}
 use Rattle.kind.specs.declared.Line.{Line}
 use Rattle.block.specs.Transformable.{Transformable}
 use Rattle.fourier.specs.declared.ScaledLine.{ScaledLine}
 use Rattle.fourier.specs.declared.ScaledLine.TheVariants.{Mean, Last, Pair}
 use Rattle.fourier.specs.Parts.{H}
-use Rattle.fourier.specs.Scaled.{Exactly, quotient, scaled_parts, scaled_line, scaled_numbers, Values}
+use Rattle.fourier.specs.Scaled.{Exactly, quotient, scaled_parts, scaled_line, Values}
 use Rattle.fourier.specs.Inner.{PowerOfTwo}
 use Rattle.fourier.proofs.Exact.{exactly}
 use Rattle.fourier.proofs.Sizes.{sum-size, difference_size}
@@ -36,10 +37,6 @@ scaled_cases Q xs v mean last pair = go (eqb v 0) refl (eqb v (length xs / 2)) r
     go false f true g = last (eqb-true _ _ g)
     go false f false g = pair (eqb-false _ _ f) (eqb-false _ _ g)
 
--- no case of a line has a number
-pub no_numbers : (xs : List ℤ) (v : ℕ) → scaled_numbers (scaled_line xs v) ≡ []
-no_numbers xs v = scaled_cases (λ r. scaled_numbers r ≡ []) xs v (λ e. refl) (λ e. refl) (λ k l. refl)
-
 -- ---- its values
 
 module _ {P : ℕ} {xs : List ℤ} (a : Transformable P xs) where
@@ -49,7 +46,7 @@ module _ {P : ℕ} {xs : List ℤ} (a : Transformable P xs) where
   part_exact : (h : ℤ) → nat_abs h ≤ 2 ^ 29 → Exactly h (2 * length xs) (quotient h (2 * length xs))
   part_exact h small = exactly h (2 * length xs) (omega arith) (twice (length xs) (2 * length xs) (power_of_two a 10 (omega arith)) refl)
 
-  pub values : (line : Line) → line.0 ≤ length xs / 2 → Values xs line (scaled_line xs line.0)
+  pub values : (line : Line) → line.0 ≤ length xs / 2 → Values xs line (Ok (scaled_line xs line.0))
   values line within = let v = line.0 in let N = length xs in let h = H xs v in let m = H xs (N - v) in let sh = a.quiet (v % N) in let sm = a.quiet ((N - v) % N) in
-      scaled_cases (Values xs line) xs v (λ e. (e, line-exact 0)) (λ e. (e, line-exact (N / 2)))
+      scaled_cases (λ r. Values xs line (Ok r)) xs v (λ e. (e, line-exact 0)) (λ e. (e, line-exact (N / 2)))
       (λ k l. (omega arith, omega arith, part_exact _ (sum-size h m sh sm), part_exact _ (difference_size m h sm sh)))

@@ -1,13 +1,14 @@
 -- Document 01, Levels: the doubled parts and the doubled power of a spectrum of N cells, for v from 0 to N/2.
 -- Example: {10, -4, -2, 0} has the real parts {20, -4, -4}, the imaginary parts {0, 4, 0} and the powers {200, 16, 8}.
-use Rattle.std.specs.Prelude.{List, [], ◌∷◌, map, ℕ, ◌+◌, ◌-◌, ◌*◌, ◌/◌, ◌%◌, ℤ, pos, nat_abs, ◌+ℤ◌, ◌-ℤ◌, length}
+use Rattle.std.specs.Prelude.{List, [], ◌∷◌, map, ℕ, ◌+◌, ◌-◌, ◌*◌, ◌/◌, ◌%◌, ℤ, pos, nat_abs, ◌+ℤ◌, ◌-ℤ◌, length, Result}
 use Rattle.ints.specs.Tabulate.{tabulate}
-use Rattle.block.specs.declared.BlockVerdict.{BlockVerdict}
 use Rattle.ints.specs.Cells.{cell}
 use Rattle.block.specs.Tests.{tested, tested_spectrum}
 use Rattle.block.specs.BlockAnswers.{cells_left}
 use Rattle.fourier.specs.declared.Doubled.{Doubled}
 use Rattle.fourier.specs.declared.Doubled.TheVariants.{Real, Imaginary}
+use Rattle.kind.specs.declared.BlockKind.{BlockKind}
+use Rattle.refusal.specs.declared.Refusal.{Refusal}
 
 -- line v of the spectrum xs, H(N) being read as H(0)
 abbrev pub H : List ℤ → ℕ → ℤ
@@ -28,11 +29,11 @@ abbrev pub doubled_lines : Doubled → List ℤ → List ℤ
 doubled_lines which xs = let N = length xs in tabulate (N / 2 + 1) (doubled_line which xs)
 
 -- what is left in a list that was lent for them: these lines where the tests pass, else the list as it was lent
-abbrev pub lines_left : Doubled → List ℤ → List ℤ → BlockVerdict → List ℤ
+abbrev pub lines_left : Doubled → List ℤ → List ℤ → Result BlockKind Refusal → List ℤ
 lines_left which xs lent verdict = cells_left (λ _. doubled_lines which xs) lent verdict
 
 -- the call for the parts: the tests of the spectrum xs and of the two lists, and what is left in each
-unfoldable pub tested_parts : List ℤ → List ℤ → List ℤ → BlockVerdict
+unfoldable pub tested_parts : List ℤ → List ℤ → List ℤ → Result BlockKind Refusal
 unfolding tested
 tested_parts xs real imaginary = tested_spectrum (length real ∷ length imaginary ∷ []) xs
 
@@ -60,7 +61,7 @@ abbrev pub in_cells : List ℕ → List ℤ
 in_cells ns = map pos ns
 
 -- the call for the power: the tests of the spectrum xs and of the one list, and what is left in it
-unfoldable pub tested_power : List ℤ → List ℤ → BlockVerdict
+unfoldable pub tested_power : List ℤ → List ℤ → Result BlockKind Refusal
 unfolding tested
 tested_power xs lent = tested_spectrum (length lent ∷ []) xs
 

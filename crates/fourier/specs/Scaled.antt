@@ -1,17 +1,17 @@
 -- Document 01, Levels: a scaled line is an f64 answer.
 -- Example: of {10, -4, -2, 0} line 0 is the mean 2.5, line 1 the pair -0.5 and 0.5, line 2 the last line -0.5, and line 3 is refused.
-use Rattle.std.specs.Prelude.{◌≡◌, Bool, true, false, cond, List, [], ◌∷◌, ℕ, ◌*◌, ◌/◌, ◌<◌, eqb, Float, ℤ, pos, negsuc, nat_abs, length}
+use Rattle.std.specs.Prelude.{◌≡◌, Bool, true, false, cond, List, [], ◌∷◌, ℕ, ◌*◌, ◌/◌, ◌<◌, eqb, Float, ℤ, pos, negsuc, nat_abs, length, Result, Ok, Err}
 use Rattle.std.specs.Float.{fin, binary64}
 use Rattle.std.specs.Float.Ieee.{of_int, mul, round}
 use Rattle.std.specs.Float.Ieee.Exact.{HasValue}
-use Rattle.block.specs.declared.BlockVerdict.{BlockVerdict}
-use Rattle.block.specs.declared.BlockVerdict.TheVariants.{Taken, Refused as BlockRefused}
+use Rattle.kind.specs.declared.BlockKind.{BlockKind}
 use Rattle.kind.specs.declared.Line.{Line}
+use Rattle.refusal.specs.declared.Refusal.{Refusal}
 use Rattle.refusal.specs.RefusalTable.{number, place}
 use Rattle.fourier.specs.declared.Doubled.TheVariants.{Real, Imaginary}
 use Rattle.fourier.specs.declared.Pair.{Pair as RealAndImaginary}
 use Rattle.fourier.specs.declared.ScaledLine.{ScaledLine}
-use Rattle.fourier.specs.declared.ScaledLine.TheVariants.{Mean, Last, Pair, Refused}
+use Rattle.fourier.specs.declared.ScaledLine.TheVariants.{Mean, Last, Pair}
 use Rattle.fourier.specs.Parts.{H, doubled_line}
 
 -- ---- quotients
@@ -46,20 +46,18 @@ scaled_line xs v = let N = length xs in
     (Pair (scaled_parts xs v)))
 
 -- what is answered for a line, by what the tests say
-abbrev pub scaled_to : List ℤ → Line → BlockVerdict → ScaledLine
-scaled_to xs line (Taken kind) = scaled_line xs line.0
-scaled_to xs line (BlockRefused refusal) = Refused refusal
+abbrev pub scaled_to : List ℤ → Line → Result BlockKind Refusal → Result ScaledLine Refusal
+scaled_to xs line (Ok kind) = Ok (scaled_line xs line.0)
+scaled_to xs line (Err refusal) = Err refusal
 
--- document 01's number and place for each case of an answer, nothing where there is a line
-abbrev pub scaled_numbers : ScaledLine → List ℕ
-scaled_numbers (Mean mean) = []
-scaled_numbers (Last last) = []
-scaled_numbers (Pair pair) = []
-scaled_numbers (Refused refusal) = number refusal ∷ place refusal ∷ []
+-- document 01's number and place for an answer, nothing where there is a line
+abbrev pub scaled_numbers : Result ScaledLine Refusal → List ℕ
+scaled_numbers (Ok line) = []
+scaled_numbers (Err refusal) = number refusal ∷ place refusal ∷ []
 
 -- document 01's values for each case of an answer: which line it is for, and what its f64 are exactly
-abbrev pub Values : List ℤ → Line → ScaledLine → Type 0
-Values xs line (Mean mean) = (line.0 ≡ 0) × Exactly (H xs 0) (length xs) mean
-Values xs line (Last last) = (line.0 ≡ length xs / 2) × Exactly (H xs (length xs / 2)) (length xs) last
-Values xs line (Pair pair) = (0 < line.0) × (line.0 < length xs / 2) × Exactly (doubled_line Real xs line.0) (2 * length xs) pair.real × Exactly (doubled_line Imaginary xs line.0) (2 * length xs) pair.imaginary
-Values xs line (Refused refusal) = Unit
+abbrev pub Values : List ℤ → Line → Result ScaledLine Refusal → Type 0
+Values xs line (Ok (Mean mean)) = (line.0 ≡ 0) × Exactly (H xs 0) (length xs) mean
+Values xs line (Ok (Last last)) = (line.0 ≡ length xs / 2) × Exactly (H xs (length xs / 2)) (length xs) last
+Values xs line (Ok (Pair pair)) = (0 < line.0) × (line.0 < length xs / 2) × Exactly (doubled_line Real xs line.0) (2 * length xs) pair.real × Exactly (doubled_line Imaginary xs line.0) (2 * length xs) pair.imaginary
+Values xs line (Err refusal) = Unit

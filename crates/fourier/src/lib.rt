@@ -1,16 +1,16 @@
 // The Fourier parts, the power and the scaled lines of a lent Hartley spectrum (document 01, Levels).
 #![tactic(auto)]
 
-ghost use Rattle.std.specs.Prelude.{◌≡◌, ℕ, ◌+◌, ◌/◌, ◌^◌, ◌≤◌, ◌<◌, nat_abs, pos, length};
+ghost use Rattle.std.specs.Prelude.{◌≡◌, ℕ, ◌+◌, ◌-◌, ◌/◌, ◌^◌, ◌≤◌, ◌<◌, ℤ, nat_abs, pos, length};
+ghost use Rattle.ints.specs.Cells.{cell};
 ghost use Rattle.kind.specs.Loudness.{LOUDEST_LINE};
 ghost use Rattle.block.specs.Tests.{tested_line};
 ghost use Rattle.block.specs.Transformable.{Transformable};
 ghost use Rattle.block.specs.BlockAnswers.{block_answer, verdict_numbers, answer_numbers};
-ghost use Rattle.fourier.specs.Parts.{doubled_lines, formula, imaginary_left, in_cells, powers, powers_left, real_left, square, tested_parts, tested_power};
+ghost use Rattle.fourier.specs.Parts.{H, formula, imaginary_left, powers_left, real_left, square, tested_parts, tested_power};
 ghost use Rattle.fourier.specs.Scaled.{Exactly, quotient, scaled_line, scaled_numbers, scaled_to, Values};
 ghost use Rattle.fourier.specs.Inner.{PowerOfTwo, scaled_pair};
 
-use block::{Answer, BlockVerdict};
 use kind::Line;
 use refusal::Refusal;
 
@@ -28,74 +28,69 @@ pub struct Pair {
     pub imaginary: f64,
 }
 
-// A scaled line: the mean for line 0, the last line for line N/2, a pair for every other line; or why there is none.
+// A scaled line: the mean for line 0, the last line for line N/2, a pair for every other line.
 #[derive(Clone, Copy)]
 pub enum ScaledLine {
     Mean(f64),
     Last(f64),
     Pair(Pair),
-    Refused(Refusal),
 }
 
 // The doubled real and imaginary parts of a spectrum, for lines 0 to N/2, in two lent lists.
-pub fn parts(spectrum: &[i64], real: &mut [i64], imaginary: &mut [i64]) -> Answer
+pub fn parts(spectrum: &[i64], real: &mut [i64], imaginary: &mut [i64]) -> Result<(), Refusal>
     ensures answer { result ≡ block_answer (tested_parts spectrum.now real.old imaginary.old) }
     ensures numbers { answer_numbers result ≡ verdict_numbers (tested_parts spectrum.now real.old imaginary.old) }
     ensures real { real.new ≡ real_left spectrum.now real.old imaginary.old }
     ensures imaginary { imaginary.new ≡ imaginary_left spectrum.now real.old imaginary.old }
 {
-    match block::tested_spectrum(&[real.len(), imaginary.len()], spectrum) {
-        BlockVerdict::Refused(refusal) => Answer::Refused(refusal),
-        BlockVerdict::Taken(_) => {
-            fill(spectrum, real, Doubled::Real);
-            fill(spectrum, imaginary, Doubled::Imaginary);
-            Answer::Done
-        }
-    }
+    block::tested_spectrum(&[real.len(), imaginary.len()], spectrum)?;
+    fill(spectrum, real, |h, m| formula(Doubled::Real, h, m));
+    fill(
+        spectrum,
+        imaginary,
+        |h, m| formula(Doubled::Imaginary, h, m),
+    );
+    Ok(())
 }
 
 // The doubled power of a spectrum, for lines 0 to N/2, in a lent list.
-pub fn power(spectrum: &[i64], powers: &mut [i64]) -> Answer
+pub fn power(spectrum: &[i64], powers: &mut [i64]) -> Result<(), Refusal>
     ensures answer { result ≡ block_answer (tested_power spectrum.now powers.old) }
     ensures numbers { answer_numbers result ≡ verdict_numbers (tested_power spectrum.now powers.old) }
     ensures powers { powers.new ≡ powers_left spectrum.now powers.old }
 {
-    match block::tested_spectrum(&[powers.len()], spectrum) {
-        BlockVerdict::Refused(refusal) => Answer::Refused(refusal),
-        BlockVerdict::Taken(_) => {
-            fill_powers(spectrum, powers);
-            Answer::Done
-        }
-    }
+    block::tested_spectrum(&[powers.len()], spectrum)?;
+    fill(spectrum, powers, power_of);
+    Ok(())
 }
 
 // A line of a spectrum, scaled.
-pub fn scaled(spectrum: &[i64], line: Line) -> ScaledLine
+pub fn scaled(spectrum: &[i64], line: Line) -> Result<ScaledLine, Refusal>
     ensures answer { result ≡ scaled_to spectrum.now line (tested_line line spectrum.now) }
     ensures numbers { scaled_numbers result ≡ verdict_numbers (tested_line line spectrum.now) }
     ensures values { Values spectrum.now line result }
 {
-    match block::tested_line(line, spectrum) {
-        BlockVerdict::Refused(refusal) => ScaledLine::Refused(refusal),
-        BlockVerdict::Taken(_) => scaled_line(spectrum, line),
-    }
+    block::tested_line(line, spectrum)?;
+    Ok(scaled_line(spectrum, line))
 }
 
-// Fills the list with one of the two parts for lines 0 to N/2. The mirror of line 0 is line 0, that of line v is line N - v.
-fn fill(spectrum: &[i64], lines: &mut [i64], which: Doubled)
-    requires { ((P : ℕ) × Transformable P spectrum.now) × (length lines.old ≡ length spectrum.now / 2 + 1) }
-    ensures { lines.new ≡ doubled_lines which spectrum.now }
+// Fills the list with what `value` makes of H(v) and H(N - v), for lines 0 to N/2. The mirror of line 0 is line 0, that of line v is line N - v.
+fn fill<F: Fn(i64, i64) -> i64>(spectrum: &[i64], lines: &mut [i64], value: F)
+    requires taken { (P : ℕ) × Transformable P spectrum.now }
+    requires long { length lines.old ≡ length spectrum.now / 2 + 1 }
+    requires callable { (h m : ℤ) → nat_abs h ≤ LOUDEST_LINE → nat_abs m ≤ LOUDEST_LINE → F.pre value h m }
+    ensures { (v : ℕ) → v < length lines.new → F.post value (H spectrum.now v) (H spectrum.now (length spectrum.now - v)) (cell lines.new v) }
 {
-    let mut v = 0;
+    // By hand: the mirror goes along with v. With line 0 ahead of the loop the rest is compiled to vectors, in which the powers take a third longer.
     let mut mirror = 0;
-    while v < lines.len() {
-        lines[v] = formula(which, spectrum[v], spectrum[mirror]);
-        v += 1;
-        mirror = spectrum.len() - v;
+    for v in 0..lines.len() {
+        lines[v] = value(spectrum[v], spectrum[mirror]);
+        mirror = spectrum.len() - (v + 1);
     }
 }
 
 // One of the two parts of line v; h is H(v) and m is H(N - v). This and `power_of` are the formulas of one line, for who knows that neither line is too loud.
+// Which part stays a case: the theorems and the listing name both by it. h and m stay two numbers, by which the pages name the two formulas.
 pub fn formula(which: Doubled, h: i64, m: i64) -> i64
     requires { (nat_abs h ≤ LOUDEST_LINE) × (nat_abs m ≤ LOUDEST_LINE) }
     ensures { result ≡ formula which h m }
@@ -103,20 +98,6 @@ pub fn formula(which: Doubled, h: i64, m: i64) -> i64
     match which {
         Doubled::Real => h + m,
         Doubled::Imaginary => m - h,
-    }
-}
-
-// Fills the cells with the doubled powers of lines 0 to N/2.
-fn fill_powers(spectrum: &[i64], cells: &mut [i64])
-    requires { ((P : ℕ) × Transformable P spectrum.now) × (length cells.old ≡ length spectrum.now / 2 + 1) }
-    ensures { cells.new ≡ in_cells (powers spectrum.now) }
-{
-    let mut v = 0;
-    let mut mirror = 0;
-    while v < cells.len() {
-        cells[v] = power_of(spectrum[v], spectrum[mirror]);
-        v += 1;
-        mirror = spectrum.len() - v;
     }
 }
 

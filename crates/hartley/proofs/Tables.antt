@@ -1,34 +1,28 @@
 -- Both tables serve the levels at the scale in force: the whole one those of every block, each sixteenth entry of it those of up to 64 cells.
 use mathlib.Core.Path.{◌≡◌, sym, ◌∙◌, ap}
 use mathlib.Core.List.{List}
-use Prim.Native.Nat.{ℕ, ◌+◌, ◌*◌, ◌-◌, ◌/◌, ◌^◌, ◌≤◌}
+use Prim.Native.Nat.{ℕ, ◌+◌, ◌*◌, ◌-◌, ◌^◌, ◌≤◌}
 use native.Mathlib.Nat.{mod_self, mul-one}
 use native.Mathlib.Omega.{arith}
-use lib.IntN.{ℤ, pos}
+use lib.IntN.{ℤ}
 use lib.ListN.{length, get_or}
 use Rattle.ints.specs.Tabulate.{tabulate}
 use Rattle.ints.proofs.Filling.{filled_all}
 use Rattle.ints.proofs.Tables.{get_d_tabulate, length-tabulate}
-use Rattle.kind.specs.BlockKinds.{SCALE, SCALE_DIGITS}
+use Rattle.kind.specs.BlockKinds.{SCALE_DIGITS}
 use Rattle.cosine.specs.Cosine.{quarter_table}
-use Rattle.levels.specs.Ready.{Ready}
+use Rattle.levels.specs.Ready.{Ready, Serves}
 use Rattle.hartley.specs.Inner.{CanRunLevels}
 
 -- 2^t + 1 entries of the quarter
 abbrev pub entries : ℕ → List ℕ
 entries t = tabulate (2 ^ t + 1) (λ j. quarter_table SCALE_DIGITS (j * 2 ^ (8 - t)))
 
-pub levels-ready : {P : ℕ} {xs : List ℤ} → CanRunLevels P xs → (t : ℕ) (quarter : List ℕ) (half : ℤ) → t ≤ 8 → P ≤ t + 2 → quarter ≡ entries t → half ≡ pos (SCALE / 2) →
-    (3 ≤ P) × (length xs ≡ 2 ^ P) × Ready SCALE_DIGITS half P quarter xs
-levels-ready {P} {xs} R t quarter half most enough at_quarter halved = (
-  R.least,
-  R.long,
-  record {
-    table = record { scale = record { least = omega arith; most = omega arith; halved = halved }; t = t; most = most; enough = enough; at_quarter = at_quarter };
-    whole = rw R.long (mod_self (2 ^ P));
-    room = R.room;
-  },
-)
+pub table-serves : (P t : ℕ) (quarter : List ℕ) → t ≤ 8 → P ≤ t + 2 → quarter ≡ entries t → Serves SCALE_DIGITS P quarter
+table-serves P t quarter most enough at_quarter = record { scale = record { least = omega arith; most = omega arith }; t = t; most = most; enough = enough; at_quarter = at_quarter }
+
+pub levels-ready : {P : ℕ} {xs : List ℤ} {quarter : List ℕ} (s : ℕ) → s ≡ SCALE_DIGITS → CanRunLevels P xs → Serves SCALE_DIGITS P quarter → (3 ≤ P) × (length xs ≡ 2 ^ P) × Ready s P quarter xs
+levels-ready {P} {xs} s digits R table = rw digits (R.least, R.long, record { table = table; whole = rw R.long (mod_self (2 ^ P)); room = R.room })
 
 pub whole-table : (quarter : List ℕ) → quarter ≡ tabulate 257 (quarter_table SCALE_DIGITS) → quarter ≡ entries 8
 whole-table quarter e = filled_all 0 (λ j. quarter_table SCALE_DIGITS (j * 1)) quarter 257 (ap length e ∙ length-tabulate 257 (quarter_table SCALE_DIGITS))

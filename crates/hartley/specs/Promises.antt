@@ -1,11 +1,10 @@
 -- Document 01, Levels and Refused input: what forward and backward leave in the lent cells; and what demand 3, the law of the first line and
 -- document 02, Items 1 and 6, say of it.
-use Rattle.std.specs.Prelude.{◌≡◌, List, [], ℕ, ◌^◌, ℤ, length}
+use Rattle.std.specs.Prelude.{◌≡◌, List, [], ℕ, ◌^◌, ℤ, length, Ok}
 use Rattle.ints.specs.Cells.{cell, negated}
 use Rattle.ints.specs.Sum.{sum}
 use Rattle.block.specs.Tests.{tested_samples, tested_spectrum}
 use Rattle.block.specs.BlockAnswers.{block_answer, cells_left}
-use Rattle.block.specs.declared.Answer.TheVariants.{Done}
 use Rattle.spectrum.specs.Spectrum.{forward, backward}
 use Rattle.spectrum.specs.Distance.{E, LinesWithin, block_bound}
 
@@ -32,7 +31,7 @@ FirstLineExact xs ys = cell ys 0 ≡ sum (length xs) (cell xs)
 -- Item 1: ys is the spectrum of the block xs. Where forward takes the negative of xs too, it leaves the negative of ys for it, line by line. The negative
 -- of a block with a sample of -32,768 is not taken.
 abbrev pub NegativeSpectrum : List ℤ → List ℤ → Type 0
-NegativeSpectrum xs ys = block_answer (tested_samples (negated xs)) ≡ Done → forward_left (negated xs) ≡ negated ys
+NegativeSpectrum xs ys = block_answer (tested_samples (negated xs)) ≡ Ok tt → forward_left (negated xs) ≡ negated ys
 
 -- ys is what backward leaves of xs. It answers the same for the negative of xs, and leaves the negative of ys for it.
 abbrev pub NegativeBlock : List ℤ → List ℤ → Type 0

@@ -1,59 +1,49 @@
 // The engine: the forward and the backward spectrum of a block, in its own cells (document 01, Levels).
 #![tactic(auto)]
 
-ghost use Rattle.std.specs.Prelude.{◌≡◌, [], map, ◌^◌, ◌≤◌};
+ghost use Rattle.std.specs.Prelude.{◌≡◌, [], map, ◌^◌, ◌≤◌, OnOk};
 ghost use Rattle.ints.specs.Quotient.{rounded};
 ghost use Rattle.kind.specs.BlockKinds.{SCALE_DIGITS};
 ghost use Rattle.block.specs.Tests.{tested_samples, tested_spectrum};
 ghost use Rattle.block.specs.Transformable.{Transformable};
 ghost use Rattle.block.specs.BlockAnswers.{block_answer, verdict_numbers, answer_numbers};
-ghost use Rattle.block.specs.declared.Answer.TheVariants.{Done};
 ghost use Rattle.spectrum.specs.Spectrum.{levels_at, forward};
+ghost use Rattle.levels.specs.Ready.{Serves};
 ghost use Rattle.hartley.specs.Promises.{FirstLineExact, NearDirectSum, NegativeBlock, NegativeSpectrum, backward_left, forward_left};
 ghost use Rattle.hartley.specs.Inner.{CanDivide, CanRunLevels};
 
-use block::{Answer, BlockVerdict};
+use ints::Scale;
 use kind::{BlockKind, Moment};
-
-// Half the scale, which is added where a level rounds.
-const HALF: i64 = (BlockKind::SCALE / 2) as i64;
+use refusal::Refusal;
 
 // The forward spectrum of a block of samples, which it replaces.
-pub fn forward(cells: &mut [i64]) -> Answer
+pub fn forward(cells: &mut [i64]) -> Result<(), Refusal>
     ensures answer { result ≡ block_answer (tested_samples cells.old) }
     ensures numbers { answer_numbers result ≡ verdict_numbers (tested_samples cells.old) }
     ensures cells { cells.new ≡ forward_left cells.old }
-    ensures distance { result ≡ Done → NearDirectSum cells.old cells.new }
-    ensures first_line { result ≡ Done → FirstLineExact cells.old cells.new }
-    ensures negative { result ≡ Done → NegativeSpectrum cells.old cells.new }
+    ensures distance { OnOk result (NearDirectSum cells.old cells.new) }
+    ensures first_line { OnOk result (FirstLineExact cells.old cells.new) }
+    ensures negative { OnOk result (NegativeSpectrum cells.old cells.new) }
 {
-    match block::tested_samples(cells) {
-        BlockVerdict::Refused(refusal) => Answer::Refused(refusal),
-        BlockVerdict::Taken(kind) => {
-            transform(cells, kind.p);
-            Answer::Done
-        }
-    }
+    let kind = block::tested_samples(cells)?;
+    transform(cells, kind.p);
+    Ok(())
 }
 
 // The same steps on a lent spectrum, then each cell divided by their number with rounding, in the spectrum's place.
-pub fn backward(cells: &mut [i64]) -> Answer
+pub fn backward(cells: &mut [i64]) -> Result<(), Refusal>
     ensures answer { result ≡ block_answer (tested_spectrum [] cells.old) }
     ensures numbers { answer_numbers result ≡ verdict_numbers (tested_spectrum [] cells.old) }
     ensures cells { cells.new ≡ backward_left cells.old }
     ensures negative { NegativeBlock cells.old cells.new }
 {
-    match block::tested_spectrum(&[], cells) {
-        BlockVerdict::Refused(refusal) => Answer::Refused(refusal),
-        BlockVerdict::Taken(kind) => {
-            transform(cells, kind.p);
-            divide(cells, kind.p);
-            Answer::Done
-        }
-    }
+    let kind = block::tested_spectrum(&[], cells)?;
+    transform(cells, kind.p);
+    divide(cells, kind.p);
+    Ok(())
 }
 
-// Permutes the 2^p cells and runs all levels on them.
+// Permutes the 2^p cells and runs all levels on them. Cells and p stay two parameters, and what is taken a clause: it speaks of cells that are changed.
 fn transform(cells: &mut [i64], p: usize)
     requires { Transformable p cells.old }
     ensures { cells.new ≡ forward p cells.old }
@@ -88,37 +78,35 @@ fn transform_eight(cells: &mut [i64])
 {
     permutation::exchange(cells, Moment(1), Moment(4));
     permutation::exchange(cells, Moment(3), Moment(6));
-    by_coarse_table(cells, 3);
+    run_levels(cells, 3);
 }
 
-// Levels 1 to p of permuted cells, up to 64 of them by the coarse table, which is set up sooner.
+// Levels 1 to p of permuted cells, up to 64 of them by each sixteenth entry of the quarter table, which is set up sooner than all entries.
 fn run_levels(cells: &mut [i64], p: usize)
     requires { CanRunLevels p cells.old }
     ensures { cells.new ≡ levels_at SCALE_DIGITS p cells.old }
 {
     if p <= 6 {
-        by_coarse_table(cells, p);
+        run_by_table(cells, &quarter::coarse_table(), p);
     } else {
-        by_quarter_table(cells, p);
+        run_by_all_entries(cells, p);
     }
 }
 
-// The same by each sixteenth entry of the quarter table.
-fn by_coarse_table(cells: &mut [i64], p: usize)
-    requires { (p ≤ 6) × CanRunLevels p cells.old }
-    ensures { cells.new ≡ levels_at SCALE_DIGITS p cells.old }
-{
-    let quarter = quarter::coarse_table();
-    levels::join_levels(cells, &quarter, BlockKind::SCALE_DIGITS, HALF, p);
-}
-
-// The same by all entries.
-fn by_quarter_table(cells: &mut [i64], p: usize)
+// The same by all entries. It is a function of its own since one that has a table clears room for it as it begins, which shorter blocks do without.
+fn run_by_all_entries(cells: &mut [i64], p: usize)
     requires { CanRunLevels p cells.old }
     ensures { cells.new ≡ levels_at SCALE_DIGITS p cells.old }
 {
-    let quarter = quarter::quarter_table();
-    levels::join_levels(cells, &quarter, BlockKind::SCALE_DIGITS, HALF, p);
+    run_by_table(cells, &quarter::quarter_table(), p);
+}
+
+// The same by a table that serves them. The levels are called from here alone, so that the scale in force is a constant in their loops.
+fn run_by_table(cells: &mut [i64], quarter: &[u32], p: usize)
+    requires { CanRunLevels p cells.old × Serves SCALE_DIGITS p quarter.now }
+    ensures { cells.new ≡ levels_at SCALE_DIGITS p cells.old }
+{
+    levels::join_levels(cells, quarter, Scale::by(BlockKind::SCALE_DIGITS), p);
 }
 
 // Divides each cell of 2^p by their number with rounding.
@@ -126,11 +114,8 @@ fn divide(cells: &mut [i64], p: usize)
     requires { CanDivide p cells.old }
     ensures { cells.new ≡ map (rounded (2 ^ p)) cells.old }
 {
-    let half = (cells.len() / 2) as i64;
-    let mut i = 0;
-    while i < cells.len() {
-        let x = cells[i];
-        cells[i] = ints::rounded(p, half, x);
-        i += 1;
+    let scale = Scale::by(p);
+    for x in cells.iter_mut() {
+        *x = scale.rounded(*x);
     }
 }

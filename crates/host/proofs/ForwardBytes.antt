@@ -6,8 +6,8 @@ use mathlib.Core.List.{List, []}
 use Prim.Native.Nat.{ℕ}
 use native.Mathlib.Omega.{arith}
 use lib.IntN.{pos}
+use Rattle.std.specs.Prelude.{Ok}
 use Rattle.ints.specs.Cells.{cell}
-use Rattle.block.specs.declared.Answer.TheVariants.{Done}
 use Rattle.block.specs.Tests.{tested_samples}
 use Rattle.block.specs.BlockAnswers.{block_answer}
 use Rattle.block.proofs.Taken.{output_none, spectrum_accepted}
@@ -29,7 +29,7 @@ spelled_cells bytes = let xs = cells_in bytes in left_spelled (λ P. forward P x
     (λ kind e i. omega (arith, (spectrum_accepted [] (forward kind.p xs) kind (forward_taken [] xs kind e (output_none _))).quiet i))
 
 module _ (before : List ℕ) {after : List ℕ} {answer : ℕ} (a : ForwardAnswered before after answer) (z : answer ≡ 0) where
-  done : block_answer (tested_samples (cells_in before)) ≡ Done
+  done : block_answer (tested_samples (cells_in before)) ≡ Ok tt
   done = nothing_refused (block_answer (tested_samples (cells_in before))) (sym a.says ∙ z)
 
   cells_after : cells_in after ≡ forward_left (cells_in before)

@@ -117,7 +117,7 @@ pub extern "C" fn hartley_strongest(powers: &[u8], low: usize, high: usize) -> u
     ensures answer { result ≡ packed_search (strongest_answer (cells_in powers.now) (as_line low) (as_line high)) }
     ensures numbers { unpacked_search (end_asked (length (cells_in powers.now)) low high) result ≡ strongest_numbers (cells_in powers.now) low high }
 {
-    packing::packed_search(search_bytes::strongest(powers, Line(low), Line(high)))
+    packing::packed_found(search_bytes::strongest(powers, Line(low), Line(high)))
 }
 
 // The line nearest to the chosen one that reaches the level, of the powers that the bytes spell; or none.

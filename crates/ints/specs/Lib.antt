@@ -1,4 +1,5 @@
 pub mod Cells
+pub mod Place
 pub mod Quotient
 pub mod Sum
 pub mod Tabulate

@@ -1,5 +1,5 @@
 -- A block's kind is given exactly for the lengths 2^P with P from 1 to 10.
--- Example: `(kind-length n P e).cells : n ≡ 2 ^ P`, with e : kind_of n ≡ Found (kind_with P).
+-- Example: `(kind-length n P e).cells : n ≡ 2 ^ P`, with e : kind_of n ≡ Some (kind_with P).
 use mathlib.Core.Path.{◌≡◌, refl, sym, ◌∙◌, ap}
 use mathlib.Core.Bool.{Bool, true, false, cond}
 use mathlib.Core.List.{List, [], ◌∷◌}
@@ -8,8 +8,8 @@ use native.Mathlib.Omega.{arith}
 use borrow.Author.Tests.{eq-eqb, ne_eqb, eqb-true, ltb-true, ltb-false}
 use lib.Dec.{eqb, ltb}
 use lib.Pow.{pow-lt}
-use Rattle.kind.specs.declared.KindFound.{KindFound}
-use Rattle.kind.specs.declared.KindFound.TheVariants.{Found, None}
+use Rattle.std.specs.Prelude.{Option, Some, None}
+use Rattle.kind.specs.declared.BlockKind.{BlockKind}
 use Rattle.kind.specs.BlockKinds.{kind_with, exponent, found, kind_of, kind_numbers, numbers_in, length_numbers}
 
 -- ---- the exponent
@@ -33,10 +33,7 @@ exponent-pow (suc m) P a b = go (ltb P (suc m)) refl (exponent-pow m P a)
 
 is-power : (most n P : ℕ) → exponent most n ≡ suc P → (suc P ≤ most) × (n ≡ 2 ^ suc P)
 unfolding exponent
-is-power zero n P e = absurd (never P e)
-  where
-    never : (P : ℕ) → 0 ≡ suc P → ⊥
-    never P e = omega arith
+is-power zero n P e = cc
 is-power (suc m) n P e = go (eqb (2 ^ suc m) n) refl (is-power m n P) e
   where
     go : (t : Bool) → eqb (2 ^ suc m) n ≡ t → (exponent m n ≡ suc P → (suc P ≤ m) × (n ≡ 2 ^ suc P)) → cond t (suc m) (exponent m n) ≡ suc P → (suc P ≤ suc m) × (n ≡ 2 ^ suc P)
@@ -50,28 +47,21 @@ pub record KindLength (n P : ℕ) : Type 0 where
   pub most : P ≤ 10
   pub cells : n ≡ 2 ^ P
 
-abbrev exponent_of : KindFound → ℕ
-exponent_of (Found k) = k.p
-exponent_of None = 0
-
-pub kind-length : (n P : ℕ) → kind_of n ≡ Found (kind_with P) → KindLength n P
+pub kind-length : (n P : ℕ) → kind_of n ≡ Some (kind_with P) → KindLength n P
 unfolding kind_of
 kind-length n P e = go (exponent 10 n) refl e
   where
-    go : (x : ℕ) → exponent 10 n ≡ x → found x ≡ Found (kind_with P) → KindLength n P
-    go zero e k = let z : ◌≡◌ {A = ℕ} 0 1 = cc in omega arith
-    go (suc x) e k = let same : suc x ≡ P = ap exponent_of k in let f = is-power 10 n x e in
-        record { least = omega arith; most = omega arith; cells = f.1 ∙ ap (λ (y : ℕ). 2 ^ y) same }
+    go : (x : ℕ) → exponent 10 n ≡ x → found x ≡ Some (kind_with P) → KindLength n P
+    go zero e k = cc
+    go (suc x) e k = let same : kind_with (suc x) ≡ kind_with P = cc in let f = is-power 10 n x e in
+        record { least = omega (arith, ap (λ (k : BlockKind). k.p) same); most = omega (arith, ap (λ (k : BlockKind). k.p) same); cells = f.1 ∙ ap (λ (k : BlockKind). 2 ^ k.p) same }
 
-pub kind-given : (n P : ℕ) → KindLength n P → kind_of n ≡ Found (kind_with P)
+pub kind-given : (n P : ℕ) → KindLength n P → kind_of n ≡ Some (kind_with P)
 unfolding kind_of
 kind-given n P h = ap (λ (x : ℕ). found (exponent 10 x)) h.cells ∙ ap found (exponent-pow 10 P h.least h.most) ∙ go P h.least
   where
-    go : (P : ℕ) → 1 ≤ P → found P ≡ Found (kind_with P)
-    go zero h = absurd (never h)
-      where
-        never : 1 ≤ 0 → ⊥
-        never h = omega arith
+    go : (P : ℕ) → 1 ≤ P → found P ≡ Some (kind_with P)
+    go zero h = absurd (omega arith)
     go (suc P) h = refl
 
 pub kind_none : (n : ℕ) → ((P : ℕ) → KindLength n P → ⊥) → kind_of n ≡ None
@@ -92,5 +82,5 @@ in_numbers n = step 9 (step 8 (step 7 (step 6 (step 5 (step 4 (step 3 (step 2 (s
     step m e = either (eqb (2 ^ suc m) n) m (exponent m n) e
 
 -- an answer, and the same in numbers
-pub both_ways : {r : KindFound} (n : ℕ) → r ≡ kind_of n → (r ≡ kind_of n) × (kind_numbers r ≡ length_numbers n)
-both_ways n e = (e, ap kind_numbers e ∙ in_numbers n)
+pub both_ways : {r : Option BlockKind} (n : ℕ) → r ≡ kind_of n → record { answer : r ≡ kind_of n; numbers : kind_numbers r ≡ length_numbers n }
+both_ways n e = record { answer = e; numbers = ap kind_numbers e ∙ in_numbers n }

@@ -1,8 +1,6 @@
 -- Document 01: a block has 2^P cells, P from 1 to 10, and no other length. With the named constants of the block's kind.
-use Rattle.std.specs.Prelude.{cond, List, [], ◌∷◌, ℕ, zero, suc, ◌^◌, eqb}
+use Rattle.std.specs.Prelude.{cond, List, [], ◌∷◌, ℕ, zero, suc, ◌^◌, eqb, Option, Some, None}
 use Rattle.kind.specs.declared.BlockKind.{BlockKind}
-use Rattle.kind.specs.declared.KindFound.{KindFound}
-use Rattle.kind.specs.declared.KindFound.TheVariants.{Found, None}
 
 -- the largest length of a block
 abbrev pub LARGEST : ℕ
@@ -29,20 +27,20 @@ exponent zero n = 0
 exponent (suc m) n = cond (eqb (2 ^ suc m) n) (suc m) (exponent m n)
 
 -- the kind with that P, and none for 0
-abbrev pub found : ℕ → KindFound
+abbrev pub found : ℕ → Option BlockKind
 found zero = None
-found (suc m) = Found (kind_with (suc m))
+found (suc m) = Some (kind_with (suc m))
 
 -- the kind of a block of n cells, or none
-unfoldable pub kind_of : ℕ → KindFound
+unfoldable pub kind_of : ℕ → Option BlockKind
 unfolding exponent
 kind_of n = found (exponent 10 n)
 
 -- ---- in document 01's numbers
 
 -- P for a kind; number and place of refusal 1 for none
-abbrev pub kind_numbers : KindFound → List ℕ
-kind_numbers (Found kind) = kind.p ∷ []
+abbrev pub kind_numbers : Option BlockKind → List ℕ
+kind_numbers (Some kind) = kind.p ∷ []
 kind_numbers None = 1 ∷ 0 ∷ []
 
 -- the lengths that a block can have, each with its P

@@ -9,9 +9,9 @@ use native.Mathlib.Omega.{arith}
 use borrow.Author.Tests.{ne_eqb}
 use lib.IntN.{ℤ, pos, negsuc, nat_abs}
 use lib.ListN.{length}
+use Rattle.std.specs.Prelude.{Result, Ok, Err}
 use Rattle.kind.specs.declared.BlockKind.{BlockKind}
-use Rattle.block.specs.declared.BlockVerdict.{BlockVerdict}
-use Rattle.block.specs.declared.BlockVerdict.TheVariants.{Taken, Refused}
+use Rattle.refusal.specs.declared.Refusal.{Refusal}
 use Rattle.refusal.specs.declared.Refusal.TheVariants.{Length, Misfit}
 use Rattle.kind.specs.BlockKinds.{LARGEST}
 use Rattle.kind.proofs.Lengths.{KindLength, kind-given}
@@ -29,15 +29,15 @@ use Rattle.lent_cells.specs.BytesLeft.{bytes_left}
 
 -- ---- a block, or a spectrum
 
-no_block : {n : ℕ} → n ≡ 0 → (P : ℕ) → KindLength n P → ⊥
+pub no_block : {n : ℕ} → n ≡ 0 → (P : ℕ) → KindLength n P → ⊥
 no_block z P k = omega (arith, kind-least k)
 
-large_block : {n : ℕ} → LARGEST < n → (P : ℕ) → KindLength n P → ⊥
+pub large_block : {n : ℕ} → LARGEST < n → (P : ℕ) → KindLength n P → ⊥
 large_block h P k = omega (arith, kind-largest k)
 
 module _ (low high : ℤ) (outputs : List ℕ) (bytes : List ℕ) where
   -- a count of bytes that is no multiple of eight is refusal 1
-  pub left_over_block : (length bytes % CELL ≡ 0 → ⊥) → tested low high outputs (cells_in bytes) ≡ Refused Length
+  pub left_over_block : (length bytes % CELL ≡ 0 → ⊥) → tested low high outputs (cells_in bytes) ≡ Err Length
   left_over_block h = tested-length low high outputs (cells_in bytes) (no_block (ap length (no_cells bytes h)))
 
   -- ys are the cells that are read
@@ -54,7 +54,7 @@ module _ (low high : ℤ) (outputs : List ℕ) (bytes : List ℕ) where
         go (too_many z k) = tested-length low high outputs ys (no_block (long ∙ z)) ∙ sym (tested-length low high outputs (cells_in bytes) (large_block k))
 
     -- and where they are taken, they are the same cells
-    pub read_taken : (kind : BlockKind) → tested low high outputs ys ≡ Taken kind → (ys ≡ cells_in bytes) × (length bytes ≡ CELL * n)
+    pub read_taken : (kind : BlockKind) → tested low high outputs ys ≡ Ok kind → (ys ≡ cells_in bytes) × (length bytes ≡ CELL * n)
     read_taken kind t = go (reads LARGEST bytes n e)
       where
         some : 2 ≤ n
@@ -81,7 +81,7 @@ same-misfit wanted some (bytes ∷ more) = rw (fit_count_lem wanted some bytes, 
 module _ (low high : ℤ) where
   -- a count of bytes that is no multiple of eight is refusal 2, where 1 is passed
   pub left_over_output : (bytes : List ℕ) (outputs : List (List ℕ)) (xs : List ℤ) → (length bytes % CELL ≡ 0 → ⊥) → (P : ℕ) → KindLength (length xs) P
-      → tested low high (counts_spelt (bytes ∷ outputs)) xs ≡ Refused Misfit
+      → tested low high (counts_spelt (bytes ∷ outputs)) xs ≡ Err Misfit
   unfolding tested misfit
   left_over_output bytes outputs xs h P k = rw (ne_eqb (length (cells_in bytes)) (length xs / 2 + 1) (λ e. omega (arith, ap length (no_cells bytes h))), kind-given (length xs) P k) refl
 
@@ -101,7 +101,7 @@ cell-within (pos x) h = omega arith
 cell-within (negsuc x) h = omega arith
 
 -- the bytes that a call on a block leaves spell the cells that it leaves; k is what the tests of the lent cells find
-pub left_spelled : (result : ℕ → List ℤ) (bytes : List ℕ) (k : BlockVerdict) → ((kind : BlockKind) → k ≡ Taken kind → (i : ℕ) → nat_abs (cell (result kind.p) i) ≤ LARGEST_CELL)
+pub left_spelled : (result : ℕ → List ℤ) (bytes : List ℕ) (k : Result BlockKind Refusal) → ((kind : BlockKind) → k ≡ Ok kind → (i : ℕ) → nat_abs (cell (result kind.p) i) ≤ LARGEST_CELL)
     → let left = cells_left result (cells_in bytes) k in cells_in (bytes_left k left bytes) ≡ left
-left_spelled result bytes (Taken kind) small = cells_back (result kind.p) (λ i h. cell-within (cell (result kind.p) i) (small kind refl i))
-left_spelled result bytes (Refused refusal) small = refl
+left_spelled result bytes (Ok kind) small = cells_back (result kind.p) (λ i h. cell-within (cell (result kind.p) i) (small kind refl i))
+left_spelled result bytes (Err refusal) small = refl

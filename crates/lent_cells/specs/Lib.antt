@@ -1,1 +1,2 @@
 pub mod BytesLeft
+pub mod Rooms

@@ -76,8 +76,8 @@ next_level s L xs ys e = ap (level_at s (2 ^ L)) e
 -- ---- ready
 
 -- the same table for fewer levels
-pub serves_fewer : {s : ℕ} {half : ℤ} {L : ℕ} {quarter : List ℕ} → Serves s half L quarter → (l : ℕ) → l ≤ L → (h : ℤ) → h ≡ half → Serves s h l quarter
-serves_fewer S l le h e = record { scale = rw e S.scale; t = S.t; most = S.most; enough = omega (arith, S.enough); at_quarter = S.at_quarter }
+pub serves_fewer : {s L : ℕ} {quarter : List ℕ} → Serves s L quarter → (l : ℕ) → l ≤ L → Serves s l quarter
+serves_fewer S l le = record { scale = S.scale; t = S.t; most = S.most; enough = omega (arith, S.enough); at_quarter = S.at_quarter }
 
 -- all entries make a quarter turn
 pub quarter_turn : (t : ℕ) → t ≤ 8 → 2 ^ t * 2 ^ (8 - t) ≡ 256
@@ -86,7 +86,7 @@ quarter_turn t h = sym (pow-add 2 t (8 - t)) ∙ ap (λ (k : ℕ). 2 ^ k) (sum t
     sum : (t : ℕ) → t ≤ 8 → t + (8 - t) ≡ 8
     sum t h = omega arith
 
-module _ {s : ℕ} {half : ℤ} {l : ℕ} {quarter : List ℕ} (S : Serves s half (suc (suc l)) quarter) where
+module _ {s l : ℕ} {quarter : List ℕ} (S : Serves s (suc (suc l)) quarter) where
   strides_all : 2 ^ l * 2 ^ (S.t - l) ≡ 2 ^ S.t
   strides_all = sym (pow-add 2 l (S.t - l)) ∙ ap (λ (k : ℕ). 2 ^ k) (sum S.t S.enough)
     where
@@ -94,9 +94,9 @@ module _ {s : ℕ} {half : ℤ} {l : ℕ} {quarter : List ℕ} (S : Serves s hal
       sum t h = omega arith
 
   -- a pair whose halves have 2 · 2^l cells can be joined
-  pub pair_ready : (xs : List ℤ) (stride : ℕ) → length xs ≡ 4 * 2 ^ l → stride ≡ 2 ^ (S.t - l) → ((i : ℕ) → Room s (cell xs i)) → (h : ℤ) → h ≡ half → Joinable s h stride quarter xs
-  pair_ready xs stride long e room h eh = record {
-    scale = rw eh S.scale;
+  pub pair_ready : (xs : List ℤ) (stride : ℕ) → length xs ≡ 4 * 2 ^ l → stride ≡ 2 ^ (S.t - l) → ((i : ℕ) → Room s (cell xs i)) → Joinable s stride quarter xs
+  pair_ready xs stride long e room = record {
+    scale = S.scale;
     k = 2 ^ l;
     some = pow_pos l;
     long = long;
@@ -111,15 +111,15 @@ module _ {s : ℕ} {half : ℤ} {l : ℕ} {quarter : List ℕ} (S : Serves s hal
   entries-many = ap length S.at_quarter ∙ length-tabulate (2 ^ S.t + 1) _ ∙ ap (λ (m : ℕ). m + 1) (sym strides_all)
 
 -- before level 1 every cell has room at a scale of 2^4 at least
-pub cells_small : {s : ℕ} {half : ℤ} {L : ℕ} {quarter : List ℕ} {xs : List ℤ} → Ready s half (suc L) quarter xs → NoneAbove LARGEST_FIRST xs
+pub cells_small : {s L : ℕ} {quarter : List ℕ} {xs : List ℤ} → Ready s (suc L) quarter xs → NoneAbove LARGEST_FIRST xs
 unfolding levels
-cells_small {s} {half} {L} {quarter} {xs} R i = omega (arith, mul-le-mul_left (nat_abs (cell xs i)) (pow_mono {i = 4} {j = s} R.table.scale.least), R.room 0 (omega arith) i)
+cells_small {s} {L} {quarter} {xs} R i = omega (arith, mul-le-mul_left (nat_abs (cell xs i)) (pow_mono {i = 4} {j = s} R.table.scale.least), R.room 0 (omega arith) i)
 
 -- a block of 2^l cells is ready for levels 1 to l where all cells are for more; past its end its cells are 0
-pub block-ready : {s : ℕ} {half : ℤ} {L : ℕ} {quarter : List ℕ} {xs : List ℤ} → Ready s half L quarter xs → (l m : ℕ) (part : List ℤ) → l ≤ L → m * 2 ^ l + 2 ^ l ≤ length xs → length part ≡ 2 ^ l →
-    ((j : ℕ) → j < 2 ^ l → cell xs (m * 2 ^ l + j) ≡ cell part j) → (h : ℤ) → h ≡ half → Ready s h l quarter part
-block-ready {s} {half} {L} {quarter} {xs} R l m part le room long same h e = record {
-  table = serves_fewer R.table l le h e;
+pub block-ready : {s L : ℕ} {quarter : List ℕ} {xs : List ℤ} → Ready s L quarter xs → (l m : ℕ) (part : List ℤ) → l ≤ L → m * 2 ^ l + 2 ^ l ≤ length xs → length part ≡ 2 ^ l →
+    ((j : ℕ) → j < 2 ^ l → cell xs (m * 2 ^ l + j) ≡ cell part j) → Ready s l quarter part
+block-ready {s} {L} {quarter} {xs} R l m part le room long same = record {
+  table = serves_fewer R.table l le;
   whole = rw long (mod_self (2 ^ l));
   room = λ l' less. everywhere (pos 0) (λ z. Room s z) (omega arith) (levels_at s l' part)
       (λ i k. rw (sym (levels_in_block s l l' (omega arith) m xs part room long same i (omega (arith, levels_keep s l' part)))) (R.room l' (omega arith) (m * 2 ^ l + i)));

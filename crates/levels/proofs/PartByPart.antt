@@ -14,8 +14,15 @@ use Rattle.ints.proofs.Filling.{Filled}
 use Rattle.ints.proofs.Slices.{part_at, length_part, filled_part, after_part}
 
 -- of parts that begin at multiples of w, one that begins inside ends inside
-pub part_inside : (w base N : ℕ) → base % w ≡ 0 → N % w ≡ 0 → base < N → base + w ≤ N
-part_inside w base N e f h = omega (arith, div-add-mod' base w, div-add-mod' N w, mul-le-mul_right w (lt_of_mul-lt-mul_right w {m = base / w} {n = N / w} (omega (arith, div-add-mod' base w, div-add-mod' N w))))
+pub next_inside : (w base N : ℕ) → base % w ≡ 0 → N % w ≡ 0 → base < N → base + w ≤ N
+next_inside w base N e f h = omega (arith, div-add-mod' base w, div-add-mod' N w, mul-le-mul_right w (lt_of_mul-lt-mul_right w {m = base / w} {n = N / w} (omega (arith, div-add-mod' base w, div-add-mod' N w))))
+
+-- part m of w cells is inside, where so many parts are, and the parts are all
+pub part_inside : (w m N : ℕ) → m < N / w → m * w + w ≤ N
+part_inside w m N h = omega (arith, div-add-mod' N w, mul-le-mul_right w h)
+
+pub parts_all : (w m N : ℕ) → N % w ≡ 0 → N / w ≤ m → N ≤ m * w
+parts_all w m N e h = omega (arith, div-add-mod' N w, mul-le-mul_right w h)
 
 module _ (F : List ℤ → List ℤ) (w : ℕ) (keeps : (xs : List ℤ) → length (F xs) ≡ length xs)
     (within : (m : ℕ) (xs part : List ℤ) → m * w + w ≤ length xs → length part ≡ w → ((j : ℕ) → j < w → cell xs (m * w + j) ≡ cell part j) → (i : ℕ) → i < w → cell (F xs) (m * w + i) ≡ cell (F part) i) where

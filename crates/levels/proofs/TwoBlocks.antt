@@ -31,9 +31,9 @@ module _ (s L : ℕ) {xs : List ℤ} {base : ℕ} {ys : List ℤ} (D : BlocksDon
   pub next_long : length (take (end - base) (drop base ys)) ≡ 2 ^ L
   next_long = part_long (levels_at s L) (2 ^ L) (levels_keep s L) (levels-within-block s L) D end ends room
 
-  pub next_ready : {half : ℤ} {K : ℕ} {quarter : List ℕ} → Ready s half K quarter xs → L ≤ K → (h : ℤ) → h ≡ half → Ready s h L quarter (take (end - base) (drop base ys))
-  next_ready R le h e = block-ready R L (base / 2 ^ L) (take (end - base) (drop base ys)) le (omega (arith, start)) next_long
-      (λ j k. ap (λ (b : ℕ). cell xs (b + j)) start ∙ sym (part_cell (levels_at s L) (2 ^ L) (levels_keep s L) (levels-within-block s L) D end ends room j k)) h e
+  pub next_ready : {K : ℕ} {quarter : List ℕ} → Ready s K quarter xs → L ≤ K → Ready s L quarter (take (end - base) (drop base ys))
+  next_ready R le = block-ready R L (base / 2 ^ L) (take (end - base) (drop base ys)) le (omega (arith, start)) next_long
+      (λ j k. ap (λ (b : ℕ). cell xs (b + j)) start ∙ sym (part_cell (levels_at s L) (2 ^ L) (levels_keep s L) (levels-within-block s L) D end ends room j k))
     where
       start : base / 2 ^ L * 2 ^ L ≡ base
       start = omega (arith, div-add-mod' base (2 ^ L), D.whole)

@@ -2,61 +2,58 @@
 -- its place; an accepted trace is 0 in one byte, P in one, the number of blocks in two and the rate in four; a scaled line is 0 in one byte and its case in
 -- the next; a line that a search finds is 0 in one byte, 1 in the next and the line in two; a saved trace is 0 in one byte and the bytes that it takes in seven; a
 -- bound is 0 in one byte and the bound in seven; a search that finds none and a call on a block that is done are 0.
-use Rattle.std.specs.Prelude.{cond, ◌||◌, List, [], ◌∷◌, ◌++◌, ℕ, ◌+◌, ◌*◌, ◌/◌, ◌%◌, ◌^◌, eqb}
+use Rattle.std.specs.Prelude.{cond, ◌||◌, List, [], ◌∷◌, ◌++◌, ℕ, ◌+◌, ◌*◌, ◌/◌, ◌%◌, ◌^◌, eqb, Option, Some, None, Result, Ok, Err}
 use Rattle.refusal.specs.declared.Refusal.{Refusal}
 use Rattle.refusal.specs.RefusalTable.{number, place}
 use Rattle.little_endian.specs.Reading.{unsigned}
 use Rattle.little_endian.specs.Spelling.{spelled}
-use Rattle.block.specs.declared.BlockVerdict.{BlockVerdict}
-use Rattle.block.specs.declared.BlockVerdict.TheVariants.{Taken, Refused as BlockRefused}
-use Rattle.block.specs.declared.Answer.{Answer}
-use Rattle.block.specs.declared.Answer.TheVariants.{Done, Refused}
-use Rattle.distance.specs.declared.BoundAnswer.{BoundAnswer}
-use Rattle.distance.specs.declared.BoundAnswer.TheVariants.{Bound, Refused as BoundRefused}
-use Rattle.trace.specs.declared.TraceAnswer.{TraceAnswer}
-use Rattle.trace.specs.declared.TraceAnswer.TheVariants.{Accepted, Refused as TraceRefused}
-use Rattle.search.specs.declared.SearchAnswer.{SearchAnswer}
-use Rattle.search.specs.declared.SearchAnswer.TheVariants.{Found, None, Refused as SearchRefused}
-use Rattle.save_tests.specs.declared.SaveAnswer.{SaveAnswer}
-use Rattle.save_tests.specs.declared.SaveAnswer.TheVariants.{Saved, Refused as SaveRefused}
+use Rattle.kind.specs.declared.BlockKind.{BlockKind}
+use Rattle.kind.specs.declared.Line.{Line}
+use Rattle.trace.specs.declared.Summary.{Summary}
 use Rattle.fourier.specs.declared.ScaledLine.{ScaledLine}
-use Rattle.fourier.specs.declared.ScaledLine.TheVariants.{Mean, Last, Pair, Refused as LineRefused}
+use Rattle.fourier.specs.declared.ScaledLine.TheVariants.{Mean, Last, Pair}
 
 -- ---- packed
 
 unfoldable pub packed_refusal : Refusal → ℕ
 packed_refusal refusal = number refusal + 256 * (place refusal % 256 ^ 7)
 
-abbrev pub packed : Answer → ℕ
-packed Done = 0
-packed (Refused refusal) = packed_refusal refusal
+abbrev pub packed : Result (Unit {0}) Refusal → ℕ
+packed (Ok done) = 0
+packed (Err refusal) = packed_refusal refusal
 
-abbrev pub packed_bound : BoundAnswer → ℕ
-packed_bound (Bound B) = 256 * (B % 256 ^ 7)
-packed_bound (BoundRefused refusal) = packed_refusal refusal
+abbrev pub packed_bound : Result ℕ Refusal → ℕ
+packed_bound (Ok B) = 256 * (B % 256 ^ 7)
+packed_bound (Err refusal) = packed_refusal refusal
 
-abbrev pub packed_trace : TraceAnswer → ℕ
-packed_trace (Accepted head blocks) = unsigned (spelled 1 0 ++ spelled 1 head.p ++ spelled 2 blocks ++ spelled 4 head.rate)
-packed_trace (TraceRefused refusal) = packed_refusal refusal
+abbrev pub packed_trace : Result Summary Refusal → ℕ
+packed_trace (Ok summary) = unsigned (spelled 1 0 ++ spelled 1 summary.head.p ++ spelled 2 summary.blocks ++ spelled 4 summary.head.rate)
+packed_trace (Err refusal) = packed_refusal refusal
 
 -- the cases of a scaled line: 1 is a mean, 2 a last line, 3 a pair; and which of them line v of N is
 abbrev pub case_of : ℕ → ℕ → ℕ
 case_of N v = cond (eqb v 0) 1 (cond (eqb v (N / 2)) 2 3)
 
-abbrev pub packed_scaled : ScaledLine → ℕ
-packed_scaled (Mean mean) = 256 * 1
-packed_scaled (Last last) = 256 * 2
-packed_scaled (Pair pair) = 256 * 3
-packed_scaled (LineRefused refusal) = packed_refusal refusal
+abbrev pub case_packed : ScaledLine → ℕ
+case_packed (Mean mean) = 256 * 1
+case_packed (Last last) = 256 * 2
+case_packed (Pair pair) = 256 * 3
 
-abbrev pub packed_search : SearchAnswer → ℕ
-packed_search (Found line) = 256 * (1 + 256 * (line.0 % 256 ^ 2))
-packed_search None = 0
-packed_search (SearchRefused refusal) = packed_refusal refusal
+abbrev pub packed_scaled : Result ScaledLine Refusal → ℕ
+packed_scaled (Ok line) = case_packed line
+packed_scaled (Err refusal) = packed_refusal refusal
 
-abbrev pub packed_save : SaveAnswer → ℕ
-packed_save (Saved used) = 256 * (used % 256 ^ 7)
-packed_save (SaveRefused refusal) = packed_refusal refusal
+abbrev pub found_packed : Line → ℕ
+found_packed line = 256 * (1 + 256 * (line.0 % 256 ^ 2))
+
+abbrev pub packed_search : Result (Option Line) Refusal → ℕ
+packed_search (Ok (Some line)) = found_packed line
+packed_search (Ok None) = 0
+packed_search (Err refusal) = packed_refusal refusal
+
+abbrev pub packed_save : Result ℕ Refusal → ℕ
+packed_save (Ok used) = 256 * (used % 256 ^ 7)
+packed_save (Err refusal) = packed_refusal refusal
 
 -- ---- and unpacked
 
@@ -113,9 +110,9 @@ unfoldable pub unpacked_scaled : ℕ → ℕ → List ℕ
 unpacked_scaled line answer = unless_refused answer (place_for line answer) (case_in answer ∷ [])
 
 -- and what it should be, by what the tests of the spectrum and of line v find
-abbrev pub case_numbers : ℕ → ℕ → BlockVerdict → List ℕ
-case_numbers N v (Taken kind) = case_of N v ∷ []
-case_numbers N v (BlockRefused refusal) = number refusal ∷ place refusal ∷ []
+abbrev pub case_numbers : ℕ → ℕ → Result BlockKind Refusal → List ℕ
+case_numbers N v (Ok kind) = case_of N v ∷ []
+case_numbers N v (Err refusal) = number refusal ∷ place refusal ∷ []
 
 -- of a search, where the line of a refusal 4 is the one asked for: the line that is found, nothing where there is none
 unfoldable pub unpacked_search : ℕ → ℕ → List ℕ

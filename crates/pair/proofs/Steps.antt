@@ -24,7 +24,7 @@ use Rattle.pair.proofs.Joining.{Both, Joined, none_joined, joined_next, joined_a
 abbrev pub entry : List ℕ → ℕ → ℤ
 entry quarter j = pos (get_or quarter j 0)
 
-module _ {s : ℕ} {half : ℤ} {stride : ℕ} {quarter : List ℕ} {xs : List ℤ} (J : Joinable s half stride quarter xs) where
+module _ {s : ℕ} {stride : ℕ} {quarter : List ℕ} {xs : List ℤ} (J : Joinable s stride quarter xs) where
   abbrev pub n : ℕ
   n = length xs / 2
 
@@ -120,10 +120,10 @@ module _ {s : ℕ} {half : ℤ} {stride : ℕ} {quarter : List ℕ} {xs : List �
       at-mirror : Both (cell xs) n ys (n - v)
       at-mirror = D.left (n - v) (omega (arith, two_halves)) (omega (arith, two_halves))
 
-      -- with the entries as the machine reads them, c and d, and the half as it has it
-      pub quad-ready : (h c d : ℤ) → h ≡ half → c ≡ entry quarter (v * stride) → d ≡ entry quarter (length quarter - 1 - v * stride) → Quad s h n v c d ys
-      quad-ready h c d eh ec ed = record {
-        scale = rw eh J.scale;
+      -- with the entries as the machine reads them, c and d
+      pub quad-ready : (c d : ℤ) → c ≡ entry quarter (v * stride) → d ≡ entry quarter (length quarter - 1 - v * stride) → Quad s n v c d ys
+      quad-ready c d ec ed = record {
+        scale = J.scale;
         long = D.long;
         some = some;
         below = omega (arith, two_halves);

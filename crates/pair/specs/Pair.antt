@@ -1,5 +1,5 @@
 -- What the join of one pair of halves asks of its callers and leaves. It stands in no public promise.
-use Rattle.std.specs.Prelude.{◌≡◌, List, ℕ, ◌+◌, ◌*◌, ◌/◌, ◌-◌, ◌^◌, ◌≤◌, ◌<◌, ℤ, pos, neg_ℤ, nat_abs, ◌+ℤ◌, ◌-ℤ◌, ◌*ℤ◌, length, set}
+use Rattle.std.specs.Prelude.{◌≡◌, List, ℕ, ◌+◌, ◌*◌, ◌/◌, ◌-◌, ◌^◌, ◌≤◌, ◌<◌, ℤ, neg_ℤ, nat_abs, ◌+ℤ◌, ◌-ℤ◌, ◌*ℤ◌, length, set}
 use Rattle.ints.specs.Cells.{cell}
 use Rattle.ints.specs.Quotient.{rounded}
 use Rattle.ints.specs.Tabulate.{tabulate}
@@ -15,16 +15,15 @@ pair_line s n x v = line_at s n x (λ j. x (n + j)) v
 abbrev pub joined_pair : ℕ → List ℤ → List ℤ
 joined_pair s xs = let n = length xs / 2 in tabulate (length xs) (pair_line s n (cell xs))
 
--- a scale 2^s, and half of it
-pub record Scale (s : ℕ) (half : ℤ) : Type 0 where
+-- 2^s is a scale of the levels
+pub record Scale (s : ℕ) : Type 0 where
   pub least : 4 ≤ s
   pub most : s ≤ 22
-  pub halved : half ≡ pos (2 ^ s / 2)
 
 -- a pair of 4 k cells can be joined: line v takes entry v × stride of the quarter's cosines, whose neighbours are `apart`
 -- steps of the turn apart, and which span a quarter of it
-pub record Joinable (s : ℕ) (half : ℤ) (stride : ℕ) (quarter : List ℕ) (xs : List ℤ) : Type 0 where
-  pub scale : Scale s half
+pub record Joinable (s stride : ℕ) (quarter : List ℕ) (xs : List ℤ) : Type 0 where
+  pub scale : Scale s
   pub k : ℕ
   pub some : 0 < k
   pub long : length xs ≡ 4 * k
@@ -47,8 +46,8 @@ quadded s n v cosine sine xs = let b = cell xs (n + v) in let mirrored = cell xs
     split (split xs n v (turned s b mirrored cosine sine)) n (n - v) (turned s b mirrored sine (neg_ℤ cosine))
 
 -- they can be made
-pub record Quad (s : ℕ) (half : ℤ) (n v : ℕ) (c d : ℤ) (xs : List ℤ) : Type 0 where
-  pub scale : Scale s half
+pub record Quad (s n v : ℕ) (c d : ℤ) (xs : List ℤ) : Type 0 where
+  pub scale : Scale s
   pub long : length xs ≡ 2 * n
   pub some : 0 < v
   pub below : 2 * v < n

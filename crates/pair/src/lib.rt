@@ -1,27 +1,28 @@
 // One pair of neighbouring halves joined in its own cells (document 01, Levels 2): four lines at a time, from the same four cells, by the quarter's
-// cosines alone, at a scale 2^digits.
+// cosines alone, at a scale that is lent with its half.
 #![tactic(auto)]
 
-ghost use Rattle.std.specs.Prelude.{◌≡◌, ◌+◌, ◌*◌, ◌-◌, ◌/◌, ◌≤◌, ◌<◌, pos, nat_abs, ◌+ℤ◌, ◌*ℤ◌, length};
+ghost use Rattle.std.specs.Prelude.{◌≡◌, ◌+◌, ◌*◌, ◌-◌, ◌/◌, ◌≤◌, ◌<◌, nat_abs, ◌+ℤ◌, ◌*ℤ◌, length};
 ghost use Rattle.ints.specs.Cells.{cell};
 ghost use Rattle.spectrum.specs.Limits.{LARGEST_PRODUCT, LARGEST_SUM};
 ghost use Rattle.pair.specs.Pair.{Joinable, Quad, joined_pair, quadded, split};
 
+use ints::Scale;
+
 // The lines of the joined halves, the second behind the first. Lines 0 and n/2 of each half need no product; of the others, lines v, n - v, n + v and
 // 2n - v have the same four cells, and line v takes entry v × stride of the quarter's cosines.
-pub fn join(cells: &mut [i64], quarter: &[u32], digits: usize, half: i64, stride: usize)
-    requires { Joinable digits half stride quarter.now cells.old }
-    ensures { cells.new ≡ joined_pair digits cells.old }
+pub fn join(cells: &mut [i64], quarter: &[u32], scale: Scale, stride: usize)
+    requires { Joinable scale.digits stride quarter.now cells.old }
+    ensures { cells.new ≡ joined_pair scale.digits cells.old }
 {
     let n = cells.len() / 2;
     let last = quarter.len() - 1;
-    let mut v = 1;
+    // By hand: the entry runs beside v, since `v * stride` takes 200 instructions more of 20,000 in a block of 256 cells.
     let mut entry = stride;
-    while v < n / 2 {
-        let cosine = wide(quarter[entry]);
-        let sine = wide(quarter[last - entry]);
-        join_quad(cells, n, v, cosine, sine, digits, half);
-        v += 1;
+    for v in 1..n / 2 {
+        let cosine = i64::from(quarter[entry]);
+        let sine = i64::from(quarter[last - entry]);
+        join_quad(cells, n, v, cosine, sine, scale);
         entry += stride;
     }
     join_plain(cells, n, 0);
@@ -38,23 +39,16 @@ pub fn join_plain(cells: &mut [i64], n: usize, v: usize)
 }
 
 // Lines v, n - v, n + v and 2n - v, by line v's cosine and sine. For line n - v the two cells change places, and the cosine its sign.
-fn join_quad(
-    cells: &mut [i64],
-    n: usize,
-    v: usize,
-    cosine: i64,
-    sine: i64,
-    digits: usize,
-    half: i64,
-)
-    requires { Quad digits half n v cosine sine cells.old }
-    ensures { cells.new ≡ quadded digits n v cosine sine cells.old }
+// n is handed down, half the number of the cells, and cosine and sine stay two numbers: for line n - v they change places, which no angle shows plainer.
+fn join_quad(cells: &mut [i64], n: usize, v: usize, cosine: i64, sine: i64, scale: Scale)
+    requires { Quad scale.digits n v cosine sine cells.old }
+    ensures { cells.new ≡ quadded scale.digits n v cosine sine cells.old }
 {
     let mirror = n - v;
     let b = cells[n + v];
     let mirrored = cells[n + mirror];
-    let q = ints::rounded(digits, half, sum_of_products(b, mirrored, cosine, sine));
-    let r = ints::rounded(digits, half, sum_of_products(b, mirrored, sine, -cosine));
+    let q = scale.rounded(sum_of_products(b, mirrored, cosine, sine));
+    let r = scale.rounded(sum_of_products(b, mirrored, sine, -cosine));
     put_both(cells, n, v, q);
     put_both(cells, n, mirror, r);
 }
@@ -75,11 +69,4 @@ fn sum_of_products(b: i64, mirrored: i64, cosine: i64, sine: i64) -> i64
     ensures { (result ≡ b *ℤ cosine +ℤ mirrored *ℤ sine) × (nat_abs result ≤ LARGEST_SUM) }
 {
     b * cosine + mirrored * sine
-}
-
-// An entry of a table as a signed number.
-fn wide(entry: u32) -> i64
-    ensures { result ≡ pos entry }
-{
-    entry as i64
 }

@@ -16,11 +16,9 @@ pub fn permute(cells: &mut [i64], p: usize)
     let half = cells.len() / 2;
     let quarter = half / 2;
     let mut r = 0;
-    let mut u = 0;
-    while u < quarter {
+    for u in 0..quarter {
         exchange_four(cells, u, r, half);
         r = next_reversed(r, quarter / 2);
-        u += 1;
     }
 }
 
@@ -45,6 +43,7 @@ pub fn exchange(cells: &mut [i64], one: Moment, other: Moment)
     requires { (one.0 < length cells.old) × (other.0 < length cells.old) }
     ensures { cells.new ≡ exchanged one.0 other.0 cells.old }
 {
+    // By hand: `swap` compares its two places first, 26 instructions more of 920 in a block of 16 cells.
     let i = one.0;
     let j = other.0;
     let x = cells[i];
@@ -59,6 +58,7 @@ fn next_reversed(digits: usize, highest: usize) -> usize
 {
     let mut rest = digits;
     let mut digit = highest;
+    // By hand: the digit halves from round to round, which no range counts.
     while 0 < digit {
         if rest < digit {
             return rest + digit;

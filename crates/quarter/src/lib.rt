@@ -4,7 +4,7 @@
 mod coarse;
 mod table;
 
-ghost use Rattle.std.specs.Prelude.{◌≡◌, ◌*◌, neg_ℤ, pos};
+ghost use Rattle.std.specs.Prelude.{◌≡◌, ◌*◌};
 ghost use Rattle.ints.specs.Tabulate.{tabulate};
 ghost use Rattle.kind.specs.BlockKinds.{SCALE_DIGITS};
 ghost use Rattle.cosine.specs.Cosine.{away, cosine, entries, sine, quarter_table};
@@ -32,9 +32,9 @@ pub fn cosine(quarter: &[u32; 257], step: usize) -> i64
 {
     let k = steps_away(step);
     if k <= 256 {
-        signed_entry(quarter[k])
+        i64::from(quarter[k])
     } else {
-        negated_entry(quarter[512 - k])
+        -i64::from(quarter[512 - k])
     }
 }
 
@@ -55,18 +55,4 @@ pub fn steps_away(step: usize) -> usize
     } else {
         BlockKind::TURN - turned
     }
-}
-
-// An entry of a table as a signed number.
-fn signed_entry(entry: u32) -> i64
-    ensures { result ≡ pos entry }
-{
-    entry as i64
-}
-
-// Minus an entry of a table.
-fn negated_entry(entry: u32) -> i64
-    ensures { result ≡ neg_ℤ (pos entry) }
-{
-    -(entry as i64)
 }

@@ -1,1 +1,2 @@
 pub mod RefusalTable
+pub mod RefusalText

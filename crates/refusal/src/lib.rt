@@ -1,14 +1,17 @@
 // Refusals with their numbers and places.
 #![tactic(auto)]
 
-ghost use Rattle.std.specs.Prelude.{◌≡◌};
+ghost use Rattle.std.specs.Prelude.{◌≡◌, Some};
 ghost use Rattle.refusal.specs.RefusalTable.{number, place};
+ghost use Rattle.refusal.specs.RefusalText.{refusal_text};
 
 use kind::Line;
+use std::error::Error;
+use std::fmt;
 
 // Why an input is refused: the rows of document 01, Refused input, in its order and by its words, those of document 02, Item 3, which stand in place of
 // its 13, and that of Item 7. A refusal holds its place, a cell, a line, a byte of the trace, the number of a block or a weight, unless the papers' place is 0.
-#[derive(Clone, Copy)]
+#[derive(Clone, Copy, Debug, PartialEq, Eq)]
 pub enum Refusal {
     Length,
     Misfit,
@@ -54,20 +57,25 @@ impl Refusal {
         ensures { result ≡ place self }
     {
         match self {
-            Refusal::Length => 0,
-            Refusal::Misfit => 0,
-            Refusal::Loud(cell) => cell,
+            Refusal::Length | Refusal::Misfit | Refusal::Long => 0,
             Refusal::Line(line) => line.0,
-            Refusal::Long => 0,
-            Refusal::Cut(byte) => byte,
-            Refusal::Kind(byte) => byte,
-            Refusal::Size(byte) => byte,
-            Refusal::Head(byte) => byte,
+            Refusal::Loud(cell) => cell,
             Refusal::Absent(block) => block,
-            Refusal::Headless(byte) => byte,
-            Refusal::SecondHead(byte) => byte,
-            Refusal::Tail(byte) => byte,
             Refusal::Weights(weight) => weight,
+            Refusal::Cut(byte) | Refusal::Kind(byte) | Refusal::Size(byte) => byte,
+            Refusal::Head(byte) | Refusal::Headless(byte) | Refusal::SecondHead(byte) => byte,
+            Refusal::Tail(byte) => byte,
         }
     }
 }
+
+// The line of a refusal: its number and its place.
+impl fmt::Display for Refusal {
+    ghost output = { λ refusal. Some (refusal_text refusal) };
+
+    fn fmt<W: fmt::Write>(&self, f: &mut fmt::Formatter<W>) -> fmt::Result {
+        write!(f, "refused {} {}", self.number(), self.place())
+    }
+}
+
+impl Error for Refusal {}

@@ -1,7 +1,7 @@
 -- The strongest line of a band: a line is the strongest of itself; of a band with one line more it is the strongest before or that line; and what has the
 -- relation `Strongest` is what the definition gives.
--- Example: `strongest-is ps low high v h s : strongest ps low high ≡ Found (record { 0 = v })`, with h : high < length ps and s : Strongest ps low high v.
-use mathlib.Core.Path.{◌≡◌, refl}
+-- Example: `strongest-is ps low high v h s : strongest ps low high ≡ Some (record { 0 = v })`, with h : high < length ps and s : Strongest ps low high v.
+use mathlib.Core.Path.{◌≡◌, refl, subst}
 use mathlib.Core.Bool.{Bool, true, false, cond, ◌&&◌}
 use mathlib.Core.List.{List}
 use mathlib.Core.Logic.{◌⊎◌, inl, inr}
@@ -13,9 +13,9 @@ use lib.Dec.{leb}
 use lib.IntN.{ℤ}
 use lib.ListN.{length}
 use lib.Signed.{◌≤ℤ◌, ◌<ℤ◌, ≤ℤ_refl}
+use Rattle.std.specs.Prelude.{Some}
 use Rattle.ints.specs.Cells.{cell}
 use Rattle.search.specs.declared.Peak.{Peak}
-use Rattle.search.specs.declared.SearchAnswer.TheVariants.{Found}
 use Rattle.search.specs.Search.{Strongest, in_band, is_stronger, reaches, strongest}
 use Rattle.search.specs.Inner.{stronger}
 use Rattle.search.proofs.Lowest.{best-is, one_outcome}
@@ -79,10 +79,14 @@ module _ (ps : List ℤ) where
       go true f = record { some = some; strongest = rw up_to (strongest_kept low (next - 1) next peak.line behind s.strongest (same f)); its_power = s.its_power }
       go false f = record { some = some; strongest = rw up_to (strongest_new low (next - 1) next peak.line behind s.strongest (same f)); its_power = p }
 
-  pub peak_four : (low v : ℕ) {a b c d : ℤ} (peak : Peak) → a ≡ cell ps v → b ≡ cell ps (v + 1) → c ≡ cell ps (v + 2) → d ≡ cell ps (v + 3)
-      → Peaked low v peak → Peaked low (v + 4) (stronger (stronger (stronger (stronger peak v a) (v + 1) b) (v + 2) c) (v + 3) d)
-  peak_four low v peak ea eb ec ed s = peak_next low (v + 3) (v + 4) _ (omega arith) ed (peak_next low (v + 2) (v + 3) _ (omega arith) ec
+  pub peak_four : (low v after : ℕ) {a b c d : ℤ} (peak : Peak) → after ≡ v + 4 → a ≡ cell ps v → b ≡ cell ps (v + 1) → c ≡ cell ps (v + 2) → d ≡ cell ps (v + 3)
+      → Peaked low v peak → Peaked low after (stronger (stronger (stronger (stronger peak v a) (v + 1) b) (v + 2) c) (v + 3) d)
+  peak_four low v after peak e ea eb ec ed s = peak_next low (v + 3) after _ (omega arith) ed (peak_next low (v + 2) (v + 3) _ (omega arith) ec
       (peak_next low (v + 1) (v + 2) _ (omega arith) eb (peak_next low v (v + 1) peak refl ea s)))
+
+  -- the strongest of the lines up to `high`
+  pub strongest_of : (low high next : ℕ) {peak : Peak} → next ≡ high + 1 → Peaked low next peak → Strongest ps low high peak.line
+  strongest_of low high next {peak} e s = let same : next - 1 ≡ high = omega arith in subst (λ (high : ℕ). Strongest ps low high peak.line) same s.strongest
 
   -- ---- what the definition gives
 
@@ -98,7 +102,7 @@ module _ (ps : List ℤ) where
         go true false a b e = one_outcome e refl
         go false u a b e = one_outcome e refl
 
-    pub strongest-is : strongest ps low high ≡ Found (record { 0 = v })
+    pub strongest-is : strongest ps low high ≡ Some (record { 0 = v })
     unfolding strongest
     strongest-is = best-is (in_band low high) (is_stronger ps) (length ps) v (omega (arith, s.to)) (in_band_lem s.from s.to)
         (λ w a b. let e = band_ends w b in rw (reaches_so (s.none_stronger w e.0 e.1)) refl)

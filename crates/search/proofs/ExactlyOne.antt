@@ -11,10 +11,10 @@ use lib.Dec.{leb, ltb}
 use lib.IntN.{ℤ}
 use lib.ListN.{length}
 use lib.Signed.{◌≤ℤ◌, clash_ℤ}
+use Rattle.std.specs.Prelude.{Option, Some, None}
 use Rattle.ints.specs.Cells.{cell}
+use Rattle.kind.specs.declared.Line.{Line}
 use Rattle.search.specs.declared.Peak.{Peak}
-use Rattle.search.specs.declared.SearchAnswer.{SearchAnswer}
-use Rattle.search.specs.declared.SearchAnswer.TheVariants.{Found, None}
 use Rattle.search.specs.Search.{Nearest, Strongest, nearest, reaches, strongest}
 use Rattle.search.specs.Inner.{NoneWithin}
 use Rattle.search.proofs.Lowest.{one_outcome}
@@ -23,11 +23,11 @@ use Rattle.search.proofs.Band.{Peaked, peak_first, peak_next, strongest-is}
 use Rattle.search.proofs.Outwards.{above-found, below-found, nearest-is, none_first, none-next}
 
 -- a line has a property, no other has it, and it is what is answered
-pub record ExactlyOne (Has : ℕ → Type 0) (answer : SearchAnswer) : Type 0 where
+pub record ExactlyOne (Has : ℕ → Type 0) (answer : Option Line) : Type 0 where
   pub line : ℕ
   pub has : Has line
   pub no_other : (w : ℕ) → Has w → w ≡ line
-  pub answered : answer ≡ Found (record { 0 = line })
+  pub answered : answer ≡ Some (record { 0 = line })
 
 -- where two tests are passed both are, and where they are not and the first is, the second is not
 both : {t u : Bool} → (t && u) ≡ true → (t ≡ true) × (u ≡ true)

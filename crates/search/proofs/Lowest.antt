@@ -1,5 +1,5 @@
 -- The lowest of the lines that pass the test `among` and that none of these beats: what a line must have to be it. Either search is this, with tests of its own.
--- Example: `best-is among beats n v in_List is_among unbeaten lower : best among beats n ≡ Found (record { 0 = v })`.
+-- Example: `best-is among beats n v in_List is_among unbeaten lower : best among beats n ≡ Some (record { 0 = v })`.
 use mathlib.Core.Path.{◌≡◌, refl, sym, ◌∙◌, ap, subst}
 use mathlib.Core.Bool.{Bool, true, false, cond, not, ◌&&◌}
 use mathlib.Core.Logic.{◌⊎◌, inl, inr}
@@ -7,9 +7,8 @@ use Prim.Native.Nat.{ℕ, zero, suc, ◌+◌, ◌≤◌, ◌<◌}
 use native.Mathlib.Nat.{eq-or-lt_of_le}
 use native.Mathlib.Omega.{arith}
 use lib.Dec.{T}
+use Rattle.std.specs.Prelude.{Some, None}
 use Rattle.kind.specs.declared.Line.{Line}
-use Rattle.refusal.specs.declared.Refusal.{Refusal}
-use Rattle.search.specs.declared.SearchAnswer.TheVariants.{Found, None, Refused}
 use Rattle.search.specs.Search.{some, lowest, best}
 
 -- a test has one outcome
@@ -42,33 +41,24 @@ module _ (test : ℕ → Bool) where
   lowest_none v zero h = refl
   lowest_none v (suc n) h = rw (h v (omega arith) (omega arith)) (lowest_none (suc v) n (λ w a b. h w (omega arith) (omega arith)))
 
-  lowest-is : (v n w : ℕ) → v ≤ w → w < v + n → test w ≡ true → ((u : ℕ) → v ≤ u → u < w → test u ≡ false) → lowest test v n ≡ Found (record { 0 = w })
+  lowest-is : (v n w : ℕ) → v ≤ w → w < v + n → test w ≡ true → ((u : ℕ) → v ≤ u → u < w → test u ≡ false) → lowest test v n ≡ Some (record { 0 = w })
   unfolding lowest
   lowest-is v zero w a b t h = absurd (omega arith)
   lowest-is v (suc n) w a b t h = go (eq-or-lt_of_le a) (lowest-is (suc v) n w)
     where
-      go : (v ≡ w) ⊎ (v < w) → (suc v ≤ w → w < suc v + n → test w ≡ true → ((u : ℕ) → suc v ≤ u → u < w → test u ≡ false) → lowest test (suc v) n ≡ Found (record { 0 = w }))
-          → lowest test v (suc n) ≡ Found (record { 0 = w })
+      go : (v ≡ w) ⊎ (v < w) → (suc v ≤ w → w < suc v + n → test w ≡ true → ((u : ℕ) → suc v ≤ u → u < w → test u ≡ false) → lowest test (suc v) n ≡ Some (record { 0 = w }))
+          → lowest test v (suc n) ≡ Some (record { 0 = w })
       go (inl same) f = rw (same, t) refl
       go (inr above) f = rw (h v (omega arith) (omega arith)) (f (omega arith) (omega arith) t (λ u c d. h u (omega arith) d))
 
-  lowest-below : (v n : ℕ) (line : Line) → lowest test v n ≡ Found line → line.0 < v + n
+  lowest-below : (v n : ℕ) (line : Line) → lowest test v n ≡ Some line → line.0 < v + n
   unfolding lowest
   lowest-below v zero line e = let z : ◌≡◌ {A = ℕ} 0 1 = cc in absurd (omega arith)
   lowest-below v (suc n) line e = go (test v) e (lowest-below (suc v) n line)
     where
-      go : (t : Bool) → cond t (Found (record { 0 = v })) (lowest test (suc v) n) ≡ Found line → (lowest test (suc v) n ≡ Found line → line.0 < suc v + n) → line.0 < v + suc n
+      go : (t : Bool) → cond t (Some (record { 0 = v })) (lowest test (suc v) n) ≡ Some line → (lowest test (suc v) n ≡ Some line → line.0 < suc v + n) → line.0 < v + suc n
       go true e f = let same : v ≡ line.0 = cc in omega arith
       go false e f = let h = f e in omega arith
-
-  lowest_unrefused : (v n : ℕ) (refusal : Refusal) → lowest test v n ≡ Refused refusal → ⊥
-  unfolding lowest
-  lowest_unrefused v zero refusal e = let z : ◌≡◌ {A = ℕ} 0 1 = cc in omega arith
-  lowest_unrefused v (suc n) refusal e = go (test v) e (lowest_unrefused (suc v) n refusal)
-    where
-      go : (t : Bool) → cond t (Found (record { 0 = v })) (lowest test (suc v) n) ≡ Refused refusal → (lowest test (suc v) n ≡ Refused refusal → ⊥) → ⊥
-      go true e f = let z : ◌≡◌ {A = ℕ} 0 1 = cc in omega arith
-      go false e f = f e
 
 -- ---- the best of those that pass the test `among`
 
@@ -78,7 +68,7 @@ module _ (among : ℕ → Bool) (beats : ℕ → ℕ → Bool) (n : ℕ) where
   Beats v w = among w && beats w v
 
   pub best-is : (v : ℕ) → v < n → among v ≡ true → ((w : ℕ) → w < n → among w ≡ true → beats w v ≡ false) → ((w : ℕ) → w < v → among w ≡ true → beats v w ≡ true)
-      → best among beats n ≡ Found (record { 0 = v })
+      → best among beats n ≡ Some (record { 0 = v })
   best-is v in_List is_among unbeaten lower = lowest-is (λ v. among v && not (some (Beats v) 0 n)) 0 n v (omega arith) (omega arith) passes (λ w a b. fails w b (among w) refl)
     where
       beaten-not : (w : ℕ) (t : Bool) → w < n → among w ≡ t → Beats v w ≡ false
@@ -98,8 +88,5 @@ module _ (among : ℕ → Bool) (beats : ℕ → ℕ → Bool) (n : ℕ) where
   pub best_none : ((v : ℕ) → v < n → among v ≡ false) → best among beats n ≡ None
   best_none h = lowest_none (λ v. among v && not (some (Beats v) 0 n)) 0 n (λ v a b. rw (h v (omega arith)) refl)
 
-  pub best-below : (line : Line) → best among beats n ≡ Found line → line.0 < n
+  pub best-below : (line : Line) → best among beats n ≡ Some line → line.0 < n
   best-below line e = omega (arith, lowest-below (λ v. among v && not (some (Beats v) 0 n)) 0 n line e)
-
-  pub best_unrefused : (refusal : Refusal) → best among beats n ≡ Refused refusal → ⊥
-  best_unrefused refusal e = lowest_unrefused (λ v. among v && not (some (Beats v) 0 n)) 0 n refusal e

@@ -13,8 +13,8 @@ use lib.Dec.{leb, ltb}
 use lib.IntN.{ℤ}
 use lib.ListN.{length}
 use lib.Signed.{◌≤ℤ◌}
+use Rattle.std.specs.Prelude.{Some, None}
 use Rattle.ints.specs.Cells.{cell}
-use Rattle.search.specs.declared.SearchAnswer.TheVariants.{Found, None}
 use Rattle.search.specs.Search.{Nearest, distance, is_nearer, nearest, reaches}
 use Rattle.search.specs.Inner.{NoneWithin, ReachesAt}
 use Rattle.search.proofs.Lowest.{best-is, best_none, one_outcome}
@@ -27,7 +27,7 @@ at_line {ps} w {level} t c e f = ap (λ (v : ℕ). reaches (cell ps v) level) (s
 module _ (ps : List ℤ) (v : ℕ) (level : ℤ) where
   -- ---- what the definition gives
 
-  pub nearest-is : (near : ℕ) → Nearest ps v level near → nearest ps v level ≡ Found (record { 0 = near })
+  pub nearest-is : (near : ℕ) → Nearest ps v level near → nearest ps v level ≡ Some (record { 0 = near })
   unfolding nearest
   nearest-is near n = best-is (λ w. reaches (cell ps w) level) (is_nearer v) (length ps) near n.listed (reaches_so n.reached)
       (λ w a b. le-ltb _ _ (n.none_nearer w a (reached b))) (λ w a b. lt-ltb _ _ (n.none_lower w a (reached b)))
@@ -80,6 +80,13 @@ module _ (ps : List ℤ) (v : ℕ) (level : ℤ) where
           go w h d true u e f = none.unreached w h (ltb-true _ _ e)
           go w h d false true e f = let at_least_lem = ltb-false (distance v w) far e in let at_most = leb-true w v f in let same : w ≡ v - far = omega arith in rw same (below (omega arith))
           go w h d false false e f = let at_least_lem = ltb-false (distance v w) far e in let beyond = leb-false w v f in let same : w ≡ v + far = omega arith in rw same (above (omega arith))
+
+    -- the line at this distance on either side, by its number
+    pub below_line : (w : ℕ) → far + w ≡ v → v < length ps → reaches (cell ps w) level ≡ true → Nearest ps v level w
+    below_line w e h r = let same : v - far ≡ w = omega arith in subst (Nearest ps v level) same (below-found (omega arith) h (rw same r))
+
+    pub above_line : (w : ℕ) → v + far ≡ w → v < far → w < length ps → reaches (cell ps w) level ≡ true → Nearest ps v level w
+    above_line w e c h r = subst (Nearest ps v level) e (above-found (λ k. absurd (omega arith)) (omega arith) (rw e r))
 
     -- every line is nearer
     pub none_left : v < far → length ps ≤ v + far → nearest ps v level ≡ None

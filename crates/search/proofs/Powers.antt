@@ -1,4 +1,4 @@
--- The one comparison of powers, `reaches`, as the order of whole numbers; and three laws of that order.
+-- The one comparison of powers, `reaches`, as the order of whole numbers; and two laws of that order.
 use mathlib.Core.Path.{◌≡◌, refl}
 use mathlib.Core.Bool.{Bool, true, false, not}
 use mathlib.Core.List.{[], ◌∷◌}

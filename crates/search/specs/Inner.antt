@@ -1,5 +1,5 @@
 -- What the inner functions ask of their callers and leave. None of it stands in a promise of `strongest` or `nearest`.
-use Rattle.std.specs.Prelude.{◌≡◌, Bool, false, cond, List, ◌⊎◌, ℕ, ◌≤◌, ◌<◌, ℤ, length}
+use Rattle.std.specs.Prelude.{◌≡◌, Bool, false, cond, List, ℕ, ◌<◌, ℤ, length}
 use Rattle.ints.specs.Cells.{cell}
 use Rattle.search.specs.declared.Peak.{Peak}
 use Rattle.search.specs.Search.{distance, reaches}
@@ -15,9 +15,3 @@ pub record ReachesAt (ps : List ℤ) (v : ℕ) (level : ℤ) (r : Bool) : Type 0
 -- no line of the list that is less than `far` from line v reaches the level
 pub record NoneWithin (ps : List ℤ) (v : ℕ) (level : ℤ) (far : ℕ) : Type 0 where
   pub unreached : (w : ℕ) → w < length ps → distance v w < far → reaches (cell ps w) level ≡ false
-
--- r is the smaller of m and n
-pub record Smaller (m n r : ℕ) : Type 0 where
-  pub not_above_m : r ≤ m
-  pub not_above_n : r ≤ n
-  pub one_of_them : (r ≡ m) ⊎ (r ≡ n)

@@ -1,11 +1,10 @@
 -- Document 02, Item 2: the strongest line of a band, and the line nearest to a chosen one whose power reaches a given level. Both search a list ps of
 -- powers, which are whole numbers here: power v of the list is that of line v.
 -- Example: in {5, 9, 9, 2, 9} the strongest line from 0 to 4 is line 1, and the line nearest to 3 that reaches 6 is line 2.
-use Rattle.std.specs.Prelude.{Bool, false, cond, not, ◌&&◌, ◌||◌, List, ℕ, zero, suc, ◌+◌, ◌-◌, ◌≤◌, ◌<◌, leb, ltb, ℤ, length, ◌≤ℤ◌, ◌<ℤ◌}
+use Rattle.std.specs.Prelude.{Bool, false, cond, not, ◌&&◌, ◌||◌, List, ℕ, zero, suc, ◌+◌, ◌-◌, ◌≤◌, ◌<◌, leb, ltb, ℤ, length, ◌≤ℤ◌, ◌<ℤ◌, Option, Some, None}
 use Rattle.std.specs.Int.Signed.{le_z}
 use Rattle.ints.specs.Cells.{cell}
-use Rattle.search.specs.declared.SearchAnswer.{SearchAnswer}
-use Rattle.search.specs.declared.SearchAnswer.TheVariants.{Found, None}
+use Rattle.kind.specs.declared.Line.{Line}
 
 -- ---- comparisons
 
@@ -35,23 +34,23 @@ unfoldable pub some : (ℕ → Bool) → ℕ → ℕ → Bool
 some test v zero = false
 some test v (suc n) = test v || some test (suc v) n
 
-unfoldable pub lowest : (ℕ → Bool) → ℕ → ℕ → SearchAnswer
+unfoldable pub lowest : (ℕ → Bool) → ℕ → ℕ → Option Line
 lowest test v zero = None
-lowest test v (suc n) = cond (test v) (Found (record { 0 = v })) (lowest test (suc v) n)
+lowest test v (suc n) = cond (test v) (Some (record { 0 = v })) (lowest test (suc v) n)
 
 -- of those of n lines that pass the test `among`, the lowest that none of these beats; none where no line passes it
-abbrev pub best : (ℕ → Bool) → (ℕ → ℕ → Bool) → ℕ → SearchAnswer
+abbrev pub best : (ℕ → Bool) → (ℕ → ℕ → Bool) → ℕ → Option Line
 best among beats n = lowest (λ v. among v && not (some (λ w. among w && beats w v) 0 n)) 0 n
 
 -- ---- the two searches
 
 -- the strongest line between two lines, both included: the lowest of equals
-unfoldable pub strongest : List ℤ → ℕ → ℕ → SearchAnswer
+unfoldable pub strongest : List ℤ → ℕ → ℕ → Option Line
 unfolding some lowest reaches
 strongest ps low high = best (in_band low high) (is_stronger ps) (length ps)
 
 -- the line nearest to a chosen one whose power reaches a given level: the lower of two equally near; none where no line reaches it
-unfoldable pub nearest : List ℤ → ℕ → ℤ → SearchAnswer
+unfoldable pub nearest : List ℤ → ℕ → ℤ → Option Line
 unfolding some lowest reaches
 nearest ps chosen level = best (λ v. reaches (cell ps v) level) (is_nearer chosen) (length ps)
 

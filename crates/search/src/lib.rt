@@ -1,31 +1,17 @@
 // The search over a list of doubled powers, those of lines 0 to N/2 (document 02, Item 2): the strongest line of a band, and the line nearest to a chosen
-// one whose power reaches a level.
+// one whose power reaches a level. The list is a slice, or bytes that spell it: whatever is read by place.
 #![tactic(auto)]
 
-ghost use Rattle.std.specs.Prelude.{◌≡◌, ◌+◌, ◌^◌, ◌≤◌, ◌<◌, length, ◌≤ℤ◌};
-ghost use Rattle.ints.specs.Cells.{cell};
+ghost use Rattle.std.specs.Prelude.{◌≡◌, ◌+◌, ◌^◌, ◌≤◌, ◌<◌, length};
+ghost use Rattle.kind.specs.BlockKinds.{LARGEST};
 ghost use Rattle.search.specs.Search.{Strongest, nearest, reaches};
 ghost use Rattle.search.specs.SearchTests.{tested_band, tested_chosen, wrong_length};
-ghost use Rattle.search.specs.SearchAnswers.{nearest_answer, nearest_numbers, search_numbers, strongest_answer, strongest_numbers};
-ghost use Rattle.search.specs.Inner.{NoneWithin, ReachesAt, Smaller, stronger};
+ghost use Rattle.search.specs.SearchAnswers.{as_found, nearest_answer, nearest_numbers, search_numbers, strongest_answer, strongest_numbers};
+ghost use Rattle.search.specs.Inner.{NoneWithin, ReachesAt, stronger};
 
-use kind::{BlockKind, KindFound, Line};
+use cells::Cells;
+use kind::{BlockKind, Line};
 use refusal::Refusal;
-
-// What a search answers: the line that it has found, that there is none, or why it was not made. There is always a strongest line.
-#[derive(Clone, Copy)]
-pub enum SearchAnswer {
-    Found(Line),
-    None,
-    Refused(Refusal),
-}
-
-// What the checks say of what is lent to a search.
-#[derive(Clone, Copy)]
-pub enum SearchVerdict {
-    Taken,
-    Refused(Refusal),
-}
 
 // The strongest line so far, with its power.
 #[derive(Clone, Copy)]
@@ -34,61 +20,57 @@ pub struct Peak {
     pub power: i64,
 }
 
-// The strongest line from low to high, both included; the lowest of equals.
-pub fn strongest(powers: &[i64], low: Line, high: Line) -> SearchAnswer
-    ensures answer { result ≡ strongest_answer powers.now low high }
-    ensures numbers { search_numbers result ≡ strongest_numbers powers.now low.0 high.0 }
+// The strongest line from low to high, both included; the lowest of equals. There is always one.
+pub fn strongest<C: Cells>(powers: C, low: Line, high: Line) -> Result<Line, Refusal>
+    ensures answer { as_found result ≡ strongest_answer (C.list powers) low high }
+    ensures numbers { search_numbers (as_found result) ≡ strongest_numbers (C.list powers) low.0 high.0 }
 {
-    match tested_band(powers.len(), low, high) {
-        SearchVerdict::Refused(refusal) => SearchAnswer::Refused(refusal),
-        SearchVerdict::Taken => SearchAnswer::Found(look_through(powers, low, high)),
-    }
+    tested_band(powers.len(), low, high)?;
+    Ok(look_through(powers, low, high))
 }
 
 // The line nearest to the chosen one whose power reaches the level, the lower of two equally near; or none.
-pub fn nearest(powers: &[i64], chosen: Line, level: i64) -> SearchAnswer
-    ensures answer { result ≡ nearest_answer powers.now chosen level }
-    ensures numbers { search_numbers result ≡ nearest_numbers powers.now chosen.0 level }
+pub fn nearest<C: Cells>(powers: C, chosen: Line, level: i64) -> Result<Option<Line>, Refusal>
+    ensures answer { result ≡ nearest_answer (C.list powers) chosen level }
+    ensures numbers { search_numbers result ≡ nearest_numbers (C.list powers) chosen.0 level }
 {
-    match tested_chosen(powers.len(), chosen) {
-        SearchVerdict::Refused(refusal) => SearchAnswer::Refused(refusal),
-        SearchVerdict::Taken => look_outwards(powers, chosen, level),
-    }
+    tested_chosen(powers.len(), chosen)?;
+    Ok(look_outwards(powers, chosen, level))
 }
 
 // The checks of a list of so many powers and of the ends of a band, in turn.
-pub fn tested_band(cells: usize, low: Line, high: Line) -> SearchVerdict
+pub fn tested_band(cells: usize, low: Line, high: Line) -> Result<(), Refusal>
     ensures { result ≡ tested_band cells low high }
 {
     if wrong_length(cells) {
-        return SearchVerdict::Refused(Refusal::Length);
+        return Err(Refusal::Length);
     }
     let from = low.0;
     let to = high.0;
     let last = cells - 1;
     if last < from {
-        return SearchVerdict::Refused(Refusal::Line(low));
+        return Err(Refusal::Line(low));
     }
     if last < to {
-        return SearchVerdict::Refused(Refusal::Line(high));
+        return Err(Refusal::Line(high));
     }
     if to < from {
-        return SearchVerdict::Refused(Refusal::Line(low));
+        return Err(Refusal::Line(low));
     }
-    SearchVerdict::Taken
+    Ok(())
 }
 
 // The checks of a list of so many powers and of a chosen line, in turn.
-pub fn tested_chosen(cells: usize, chosen: Line) -> SearchVerdict
+pub fn tested_chosen(cells: usize, chosen: Line) -> Result<(), Refusal>
     ensures { result ≡ tested_chosen cells chosen }
 {
     if wrong_length(cells) {
-        return SearchVerdict::Refused(Refusal::Length);
+        return Err(Refusal::Length);
     }
     if cells - 1 < chosen.0 {
-        return SearchVerdict::Refused(Refusal::Line(chosen));
+        return Err(Refusal::Line(chosen));
     }
-    SearchVerdict::Taken
+    Ok(())
 }
 
 // Whether no block has so many lines from 0 to N/2.
@@ -101,39 +83,34 @@ fn wrong_length(cells: usize) -> bool
     if BlockKind::LARGEST < cells {
         return true;
     }
-    match BlockKind::of_len(2 * (cells - 1)) {
-        KindFound::Found(_) => false,
-        KindFound::None => true,
-    }
+    BlockKind::of_len(2 * (cells - 1)).is_none()
 }
 
-// The strongest line of a band that the list has.
-fn look_through(powers: &[i64], low: Line, high: Line) -> Line
-    requires { (low.0 ≤ high.0) × (high.0 < length powers.now) }
-    ensures { Strongest powers.now low.0 high.0 result.0 }
+// The strongest line of a band that the list has: the first lines one by one, so many that the others are whole fours.
+fn look_through<C: Cells>(powers: C, low: Line, high: Line) -> Line
+    requires { (low.0 ≤ high.0) × (high.0 < length (C.list powers)) × (high.0 < LARGEST) }
+    ensures { Strongest (C.list powers) low.0 high.0 result.0 }
 {
-    let first = low.0;
-    let last = high.0;
     let mut peak = Peak {
-        line: first,
-        power: power_at(powers, first),
+        line: low.0,
+        power: powers.cell(low.0),
     };
-    let mut next = first + 1;
-    while next <= last {
-        if last - next < 3 {
-            peak = stronger(peak, next, power_at(powers, next));
-            next += 1;
-        } else {
-            peak = stronger_of_four(
-                peak,
-                next,
-                power_at(powers, next),
-                power_at(powers, next + 1),
-                power_at(powers, next + 2),
-                power_at(powers, next + 3),
-            );
-            next += 4;
-        }
+    let start = low.0 + 1;
+    let lines = high.0 - low.0;
+    let fours = start + lines % 4;
+    for next in start..fours {
+        peak = stronger(peak, next, powers.cell(next));
+    }
+    for k in 0..lines / 4 {
+        let next = fours + 4 * k;
+        peak = stronger_of_four(
+            peak,
+            next,
+            powers.cell(next),
+            powers.cell(next + 1),
+            powers.cell(next + 2),
+            powers.cell(next + 3),
+        );
     }
     Line(peak.line)
 }
@@ -143,7 +120,7 @@ pub fn stronger_of_four(peak: Peak, v: usize, a: i64, b: i64, c: i64, d: i64) ->
     requires { v + 3 < 2 ^ 64 }
     ensures { result ≡ stronger (stronger (stronger (stronger peak v a) (v + 1) b) (v + 2) c) (v + 3) d }
 {
-    if reaches(peak.power, larger(larger(a, b), larger(c, d))) {
+    if reaches(peak.power, a.max(b).max(c.max(d))) {
         return peak;
     }
     stronger(
@@ -151,13 +128,6 @@ pub fn stronger_of_four(peak: Peak, v: usize, a: i64, b: i64, c: i64, d: i64) ->
         v + 3,
         d,
     )
-}
-
-// The larger of two powers.
-fn larger(a: i64, b: i64) -> i64
-    ensures { (a ≤ℤ result) × (b ≤ℤ result) }
-{
-    if reaches(a, b) { a } else { b }
 }
 
 // The strongest line so far, once line v is looked at, which lies above the others.
@@ -169,92 +139,56 @@ pub fn stronger(peak: Peak, v: usize, power: i64) -> Peak
     if kept { peak } else { next }
 }
 
-// Whether a power reaches a level. This is the only comparison of powers.
+// Whether a power reaches a level. It alone decides which line is stronger, and which reaches a level; a largest of four only tells where to look closer.
+#[tactic(auto, unfolding(crate::specs::Search::reaches))]
 pub fn reaches(power: i64, level: i64) -> bool
     ensures { result ≡ reaches power level }
 {
     level <= power
 }
 
-// The nearest line to a line of the list: that line itself, then one below and one above at each distance, as far as there are both, then what is left.
-fn look_outwards(powers: &[i64], chosen: Line, level: i64) -> SearchAnswer
-    requires { chosen.0 < length powers.now }
-    ensures { result ≡ nearest powers.now chosen.0 level }
+// The nearest line to a line of the list: that line itself, then one below and one above at each distance, as far as there are both, then what is left,
+// which lies on one side alone.
+fn look_outwards<C: Cells>(powers: C, chosen: Line, level: i64) -> Option<Line>
+    requires { chosen.0 < length (C.list powers) }
+    ensures { result ≡ nearest (C.list powers) chosen.0 level }
 {
     let v = chosen.0;
     if reaches_at(powers, v, level) {
-        return SearchAnswer::Found(chosen);
+        return Some(chosen);
     }
-    let near = smaller(v, powers.len() - 1 - v);
-    let mut far = 1;
-    while far <= near {
+    let lines = powers.len();
+    let near = v.min(lines - 1 - v);
+    // With `..=near`, as measured, a look through the whole list takes a quarter longer.
+    for far in 1..near + 1 {
         let below = v - far;
         let above = v + far;
         if reaches_at(powers, below, level) {
-            return SearchAnswer::Found(Line(below));
+            return Some(Line(below));
         }
         if reaches_at(powers, above, level) {
-            return SearchAnswer::Found(Line(above));
+            return Some(Line(above));
         }
-        far += 1;
     }
-    if v < far {
-        look_above(powers, v, far, level)
-    } else {
-        look_below(powers, v, far, level)
-    }
-}
-
-// The same where only lines above v are left, from the distance `start` on; no nearer line reaches the level.
-fn look_above(powers: &[i64], v: usize, start: usize, level: i64) -> SearchAnswer
-    requires { (v < length powers.now) × (v < start) × NoneWithin powers.now v level start }
-    ensures { result ≡ nearest powers.now v level }
-{
-    let last = powers.len() - 1 - v;
-    let mut far = start;
-    while far <= last {
-        if reaches_at(powers, v + far, level) {
-            return SearchAnswer::Found(Line(v + far));
+    for far in near + 1..v + 1 {
+        let low = v - far;
+        if reaches_at(powers, low, level) {
+            return Some(Line(low));
         }
-        far += 1;
     }
-    SearchAnswer::None
-}
-
-// The same where only lines below v are left, from the distance `start` on.
-fn look_below(powers: &[i64], v: usize, start: usize, level: i64) -> SearchAnswer
-    requires { (v < length powers.now) × (length powers.now ≤ v + start) × NoneWithin powers.now v level start }
-    ensures { result ≡ nearest powers.now v level }
-{
-    let mut far = start;
-    while far <= v {
-        if reaches_at(powers, v - far, level) {
-            return SearchAnswer::Found(Line(v - far));
+    for far in near + 1..lines - v {
+        let high = v + far;
+        if reaches_at(powers, high, level) {
+            return Some(Line(high));
         }
-        far += 1;
     }
-    SearchAnswer::None
+    None
 }
 
 // Whether the power of line v reaches the level.
-fn reaches_at(powers: &[i64], v: usize, level: i64) -> bool
-    requires { v < length powers.now }
-    ensures { ReachesAt powers.now v level result }
+fn reaches_at<C: Cells>(powers: C, v: usize, level: i64) -> bool
+    requires { v < length (C.list powers) }
+    ensures { ReachesAt (C.list powers) v level result }
 {
-    reaches(power_at(powers, v), level)
-}
-
-// The power of line v.
-fn power_at(powers: &[i64], v: usize) -> i64
-    requires { v < length powers.now }
-    ensures { result ≡ cell powers.now v }
-{
-    powers[v]
-}
-
-// The smaller of two numbers.
-pub fn smaller(m: usize, n: usize) -> usize
-    ensures { Smaller m n result }
-{
-    if m < n { m } else { n }
+    reaches(powers.cell(v), level)
 }

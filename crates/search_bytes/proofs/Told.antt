@@ -10,45 +10,42 @@ use borrow.Author.Tests.{le-ltb, ltb-true, ltb-false}
 use lib.Dec.{ltb}
 use lib.IntN.{ℤ}
 use lib.ListN.{length}
+use Rattle.std.specs.Prelude.{Option, Some, Result, Ok, Err}
 use Rattle.kind.specs.declared.Line.{Line}
 use Rattle.refusal.specs.declared.Refusal.{Refusal}
 use Rattle.refusal.specs.declared.Refusal.TheVariants.{Length, Line as LineAbove}
-use Rattle.search.specs.declared.SearchAnswer.{SearchAnswer}
-use Rattle.search.specs.declared.SearchAnswer.TheVariants.{Found, Refused as SearchRefused}
-use Rattle.search.specs.declared.SearchVerdict.{SearchVerdict}
-use Rattle.search.specs.declared.SearchVerdict.TheVariants.{Taken, Refused}
 use Rattle.search.specs.Search.{nearest, strongest}
 use Rattle.search.specs.SearchTests.{tested_band, tested_chosen, wrong_length}
 use Rattle.search.specs.SearchAnswers.{answer_to, nearest_answer, nearest_numbers, search_numbers, strongest_answer, strongest_numbers}
-use Rattle.search.proofs.Checks.{band_known, band_length, band-taken, chosen_beyond, chosen_known, chosen_length, chosen_taken, high-beyond, low_beyond, nearest-listed, nearest_numbers_lem, nearest_unrefused, strongest-listed, strongest_numbers_lem, strongest_unrefused, turned_round}
+use Rattle.search.proofs.Checks.{band_known, band_length, band-taken, chosen_beyond, chosen_known, chosen_length, chosen_taken, high-beyond, low_beyond, nearest-listed, nearest_numbers_lem, strongest-listed, strongest_numbers_lem, turned_round}
 use Rattle.packing.specs.Packing.{packed_search, unpacked_search}
 use Rattle.packing.proofs.Packing.{Tellable, in_block_tellable, line_tellable, search_unpacked}
 use Rattle.search_bytes.specs.Asked.{end_asked}
 
 -- ---- an answer by what the checks have found: its line is one of the list, and its refusal is that of the checks
 
-module _ (asked n : ℕ) (found : SearchAnswer) (few : (line : Line) → found ≡ Found line → line.0 < n) (unrefused : (refusal : Refusal) → found ≡ SearchRefused refusal → ⊥) where
-  told : (k : SearchVerdict) → (k ≡ Taken → n ≤ 1024) → ((refusal : Refusal) → k ≡ Refused refusal → Tellable asked refusal)
+module _ (asked n : ℕ) (found : Option Line) (few : (line : Line) → found ≡ Some line → line.0 < n) where
+  told : (k : Result (Unit {0}) Refusal) → (k ≡ Ok tt → n ≤ 1024) → ((refusal : Refusal) → k ≡ Err refusal → Tellable asked refusal)
       → unpacked_search asked (packed_search (answer_to k found)) ≡ search_numbers (answer_to k found)
-  told Taken small tellable = search_unpacked asked found (λ refusal e. absurd (unrefused refusal e)) (λ line e. omega (arith, few line e, small refl))
-  told (Refused refusal) small tellable = search_unpacked asked (SearchRefused refusal)
-      (λ other e. let same : refusal ≡ other = cc in subst (Tellable asked) same (tellable refusal refl)) (λ line e. let z : ◌≡◌ {A = ℕ} 0 1 = cc in absurd (omega arith))
+  told (Ok taken) small tellable = search_unpacked asked (Ok found) (λ refusal e. cc) (λ line e. let is : found ≡ Some line = cc in omega (arith, few line is, small refl))
+  told (Err refusal) small tellable = search_unpacked asked (Err refusal)
+      (λ other e. let same : refusal ≡ other = cc in subst (Tellable asked) same (tellable refusal refl)) (λ line e. cc)
 
 -- ---- the refusals of the checks
 
-module _ (asked : ℕ) {k : SearchVerdict} (refusal : Refusal) (e : k ≡ Refused refusal) where
+module _ (asked : ℕ) {k : Result (Unit {0}) Refusal} (refusal : Refusal) (e : k ≡ Err refusal) where
   -- the checks refuse by this one, and its place can be told
-  so : (given : Refusal) → Refused given ≡ k → Tellable asked given → Tellable asked refusal
+  so : (given : Refusal) → Err given ≡ k → Tellable asked given → Tellable asked refusal
   so given f h = let same : given ≡ refusal = cc in subst (Tellable asked) same h
 
-  never : Taken ≡ k → Tellable asked refusal
-  never f = let z : ◌≡◌ {A = ℕ} 0 1 = cc in absurd (omega arith)
+  never : Ok tt ≡ k → Tellable asked refusal
+  never f = cc
 
 module _ (n : ℕ) (low high : Line) where
   abbrev end : ℕ
   end = end_asked n low.0 high.0
 
-  band_tellable : (refusal : Refusal) → tested_band n low high ≡ Refused refusal → Tellable end refusal
+  band_tellable : (refusal : Refusal) → tested_band n low high ≡ Err refusal → Tellable end refusal
   band_tellable refusal e = go (wrong_length n) (ltb (n - 1) low.0) (ltb (n - 1) high.0) (ltb high.0 low.0) refl refl refl refl
     where
       go : (t u v w : Bool) → wrong_length n ≡ t → ltb (n - 1) low.0 ≡ u → ltb (n - 1) high.0 ≡ v → ltb high.0 low.0 ≡ w → Tellable end refusal
@@ -60,7 +57,7 @@ module _ (n : ℕ) (low high : Line) where
       go false false false false a b c d = never end refusal e (band-taken n low high a (ltb-false _ _ b) (ltb-false _ _ c) (ltb-false _ _ d))
 
 module _ (n : ℕ) (chosen : Line) where
-  chosen_tellable : (refusal : Refusal) → tested_chosen n chosen ≡ Refused refusal → Tellable chosen.0 refusal
+  chosen_tellable : (refusal : Refusal) → tested_chosen n chosen ≡ Err refusal → Tellable chosen.0 refusal
   chosen_tellable refusal e = go (wrong_length n) (ltb (n - 1) chosen.0) refl refl
     where
       go : (t u : Bool) → wrong_length n ≡ t → ltb (n - 1) chosen.0 ≡ u → Tellable chosen.0 refusal
@@ -75,12 +72,12 @@ module _ (ps : List ℤ) where
       → unpacked_search (end_asked (length ps) low.0 high.0) answer ≡ strongest_numbers ps low.0 high.0
   unfolding strongest_answer
   strongest_told low high e = let n = length ps in let k = tested_band n low high in ap (unpacked_search (end_asked n low.0 high.0)) e
-      ∙ told (end_asked n low.0 high.0) n (strongest ps low.0 high.0) (strongest-listed ps low high) (strongest_unrefused ps low high) k (λ t. (band_known n low high t).few) (band_tellable n low high)
+      ∙ told (end_asked n low.0 high.0) n (strongest ps low.0 high.0) (strongest-listed ps low high) k (λ t. (band_known n low high t).few) (band_tellable n low high)
       ∙ strongest_numbers_lem ps low high
 
   pub nearest_told : (chosen : Line) (level : ℤ) {answer : ℕ} → answer ≡ packed_search (nearest_answer ps chosen level)
       → unpacked_search chosen.0 answer ≡ nearest_numbers ps chosen.0 level
   unfolding nearest_answer
   nearest_told chosen level e = let n = length ps in let k = tested_chosen n chosen in ap (unpacked_search chosen.0) e
-      ∙ told chosen.0 n (nearest ps chosen.0 level) (nearest-listed ps chosen level) (nearest_unrefused ps chosen level) k (λ t. (chosen_known n chosen t).few) (chosen_tellable n chosen)
+      ∙ told chosen.0 n (nearest ps chosen.0 level) (nearest-listed ps chosen level) k (λ t. (chosen_known n chosen t).few) (chosen_tellable n chosen)
       ∙ nearest_numbers_lem ps chosen level

@@ -3,26 +3,25 @@
 use mathlib.Core.Path.{◌≡◌, refl, sym, ◌∙◌, ap, ap₂}
 use mathlib.Core.Bool.{Bool, true, false, cond}
 use mathlib.Core.List.{List}
-use Prim.Native.Nat.{ℕ, zero, suc, ◌*◌, ◌/◌, ◌%◌, ◌≤◌, ◌<◌}
+use Prim.Native.Nat.{ℕ, zero, suc, ◌*◌, ◌/◌, ◌%◌, ◌≤◌}
 use native.Mathlib.Omega.{arith}
 use borrow.Author.Tests.{eq-eqb, le-leb, eqb-true, eqb-false}
 use lib.Dec.{eqb}
 use lib.IntN.{ℤ}
 use lib.ListN.{length}
 use lib.Pow.{pow_pos}
+use Rattle.std.specs.Prelude.{Ok}
 use Rattle.kind.specs.declared.BlockKind.{BlockKind}
 use Rattle.kind.specs.BlockKinds.{LARGEST}
-use Rattle.kind.proofs.Lengths.{KindLength}
 use Rattle.little_endian.specs.Reading.{signeds}
 use Rattle.little_endian.proofs.Signed.{length-signeds}
 use Rattle.cell_bytes.specs.CellBytes.{CELL, cell_count, cells_in, decoded, fit_count}
 use Rattle.cell_bytes.proofs.CellsRead.{Reads, all_room, decoded_all, decoded_cells, fit_count_lem, reads, same, too_many}
-use Rattle.block.specs.declared.BlockVerdict.TheVariants.{Taken}
 use Rattle.block.specs.BlockAnswers.{block_answer, cells_left, verdict_numbers}
-use Rattle.block.proofs.Refused.{kind-least, kind-largest}
 use Rattle.packing.specs.Packing.{packed, unpacked_block}
 use Rattle.packing.proofs.Packing.{block_unpacked}
 use Rattle.lent_cells.specs.BytesLeft.{written_back}
+use Rattle.lent_cells.proofs.Counts.{large_block, no_block}
 use Rattle.lent_cells.proofs.Calls.{left_so, says_so}
 use Rattle.smooth_tests.specs.Tests.{tested_smoothing}
 use Rattle.smooth_tests.proofs.SmoothingTaken.{SmoothingTaken, misfit_alike, smoothing_taken}
@@ -30,12 +29,6 @@ use Rattle.smooth_tests.proofs.SmoothingRefused.{smoothing_length, smoothing_pla
 use Rattle.exact.specs.Smoothing.{cyclic_sums}
 use Rattle.smoothing.specs.Promises.{smooth_left, sums_left}
 use Rattle.smooth_bytes.specs.Inner.{SmoothAnswered}
-
-no_block : {n : ℕ} → n ≡ 0 → (P : ℕ) → KindLength n P → ⊥
-no_block z P k = omega (arith, kind-least k)
-
-large_block : {n : ℕ} → LARGEST < n → (P : ℕ) → KindLength n P → ⊥
-large_block h P k = omega (arith, kind-largest k)
 
 -- there are bytes for as many weights as are counted, and they are read into a room for them
 fit_bytes : (wanted n : ℕ) → CELL * fit_count wanted n ≤ n
@@ -95,7 +88,7 @@ module _ (bytes weights : List ℕ) (n : ℕ) (e : n ≡ cell_count (CELL * LARG
       go (too_many z k) = smoothing_length ys vs (no_block (long ∙ z)) ∙ sym (smoothing_length (cells_in bytes) (cells_in weights) (large_block k))
 
   -- where they are taken
-  read_taken : (kind : BlockKind) → tested_smoothing ys vs ≡ Taken kind → (ys ≡ cells_in bytes) × (vs ≡ cells_in weights) × (length bytes ≡ CELL * length ys)
+  read_taken : (kind : BlockKind) → tested_smoothing ys vs ≡ Ok kind → (ys ≡ cells_in bytes) × (vs ≡ cells_in weights) × (length bytes ≡ CELL * length ys)
   read_taken kind t = go (reads LARGEST bytes n e)
     where
       taken : SmoothingTaken kind.p ys vs

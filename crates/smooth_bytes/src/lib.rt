@@ -1,18 +1,16 @@
 // Smoothing of a block whose cells are bytes by weights whose cells are bytes, for hosts in C (document 02, Item 7).
 #![tactic(auto)]
 
-ghost use Rattle.std.specs.Prelude.{◌≡◌, ◌*◌, length};
+ghost use Rattle.std.specs.Prelude.{◌≡◌, ◌*◌, ◌≤◌, length};
 ghost use Rattle.kind.specs.BlockKinds.{LARGEST};
 ghost use Rattle.cell_bytes.specs.CellBytes.{CELL, cell_count, fit_count};
+ghost use Rattle.cyclic_sums.specs.Short.{SHORT};
 ghost use Rattle.smooth_bytes.specs.Inner.{SmoothAnswered};
 
 use cell_bytes::CELL;
-use kind::BlockKind;
+use lent_cells::{LARGEST, MIDDLE};
 
-// The cells of a middle room. A call clears its rooms, and a block of the middle size should not wait for those of the largest.
-const MIDDLE: usize = 128;
-
-// Smoothing of the cells that the bytes spell, eight bytes each. A block of up to 32 cells has a function of its own, in which their number is known.
+// Smoothing of the cells that the bytes spell, eight bytes each. Of a block of up to 32 cells their number is known where it is compiled.
 pub fn smooth(bytes: &mut [u8], weights: &[u8]) -> u64
     ensures { SmoothAnswered bytes.old weights.now bytes.new result }
 {
@@ -20,88 +18,25 @@ pub fn smooth(bytes: &mut [u8], weights: &[u8]) -> u64
         return smooth_long(bytes, weights);
     }
     match bytes.len() {
-        16 => smooth_two(bytes, weights),
-        32 => smooth_four(bytes, weights),
-        64 => smooth_eight(bytes, weights),
-        128 => smooth_sixteen(bytes, weights),
-        256 => smooth_thirty_two(bytes, weights),
+        16 => smooth_cells::<2, 4>(bytes, weights),
+        32 => smooth_cells::<4, 8>(bytes, weights),
+        64 => smooth_cells::<8, 16>(bytes, weights),
+        128 => smooth_cells::<16, 32>(bytes, weights),
+        256 => smooth_cells::<32, 64>(bytes, weights),
         _ => smooth_long(bytes, weights),
     }
 }
 
-// Smoothing of two samples by two weights.
-fn smooth_two(bytes: &mut [u8], weights: &[u8]) -> u64
-    requires { (length bytes.old ≡ 16) × (length weights.now ≡ 16) }
+// Smoothing of N samples by N weights. TWICE is 2 N, since the length of a list may not be computed from N.
+fn smooth_cells<const N: usize, const TWICE: usize>(bytes: &mut [u8], weights: &[u8]) -> u64
+    requires short { (N ≤ SHORT) × (TWICE ≡ 2 * N) }
+    requires whole { (length bytes.old ≡ CELL * N) × (length weights.now ≡ CELL * N) }
     ensures { SmoothAnswered bytes.old weights.now bytes.new result }
 {
-    let mut cells = [0i64; 2];
-    let mut values = [0i64; 2];
-    let mut turned = [0i64; 4];
-    let mut sums = [0i64; 2];
-    cell_bytes::decode(bytes, &mut cells);
-    cell_bytes::decode(weights, &mut values);
-    let answer = packing::packed(smoothing::smooth_short(&cells, &values, &mut turned, &mut sums));
-    lent_cells::write_back(answer, &sums, bytes);
-    answer
-}
-
-// The same of four.
-fn smooth_four(bytes: &mut [u8], weights: &[u8]) -> u64
-    requires { (length bytes.old ≡ 32) × (length weights.now ≡ 32) }
-    ensures { SmoothAnswered bytes.old weights.now bytes.new result }
-{
-    let mut cells = [0i64; 4];
-    let mut values = [0i64; 4];
-    let mut turned = [0i64; 8];
-    let mut sums = [0i64; 4];
-    cell_bytes::decode(bytes, &mut cells);
-    cell_bytes::decode(weights, &mut values);
-    let answer = packing::packed(smoothing::smooth_short(&cells, &values, &mut turned, &mut sums));
-    lent_cells::write_back(answer, &sums, bytes);
-    answer
-}
-
-// The same of eight.
-fn smooth_eight(bytes: &mut [u8], weights: &[u8]) -> u64
-    requires { (length bytes.old ≡ 64) × (length weights.now ≡ 64) }
-    ensures { SmoothAnswered bytes.old weights.now bytes.new result }
-{
-    let mut cells = [0i64; 8];
-    let mut values = [0i64; 8];
-    let mut turned = [0i64; 16];
-    let mut sums = [0i64; 8];
-    cell_bytes::decode(bytes, &mut cells);
-    cell_bytes::decode(weights, &mut values);
-    let answer = packing::packed(smoothing::smooth_short(&cells, &values, &mut turned, &mut sums));
-    lent_cells::write_back(answer, &sums, bytes);
-    answer
-}
-
-// The same of sixteen.
-fn smooth_sixteen(bytes: &mut [u8], weights: &[u8]) -> u64
-    requires { (length bytes.old ≡ 128) × (length weights.now ≡ 128) }
-    ensures { SmoothAnswered bytes.old weights.now bytes.new result }
-{
-    let mut cells = [0i64; 16];
-    let mut values = [0i64; 16];
-    let mut turned = [0i64; 32];
-    let mut sums = [0i64; 16];
-    cell_bytes::decode(bytes, &mut cells);
-    cell_bytes::decode(weights, &mut values);
-    let answer = packing::packed(smoothing::smooth_short(&cells, &values, &mut turned, &mut sums));
-    lent_cells::write_back(answer, &sums, bytes);
-    answer
-}
-
-// The same of thirty-two.
-fn smooth_thirty_two(bytes: &mut [u8], weights: &[u8]) -> u64
-    requires { (length bytes.old ≡ 256) × (length weights.now ≡ 256) }
-    ensures { SmoothAnswered bytes.old weights.now bytes.new result }
-{
-    let mut cells = [0i64; 32];
-    let mut values = [0i64; 32];
-    let mut turned = [0i64; 64];
-    let mut sums = [0i64; 32];
+    let mut cells = [0i64; N];
+    let mut values = [0i64; N];
+    let mut turned = [0i64; TWICE];
+    let mut sums = [0i64; N];
     cell_bytes::decode(bytes, &mut cells);
     cell_bytes::decode(weights, &mut values);
     let answer = packing::packed(smoothing::smooth_short(&cells, &values, &mut turned, &mut sums));
@@ -113,24 +48,31 @@ fn smooth_thirty_two(bytes: &mut [u8], weights: &[u8]) -> u64
 fn smooth_long(bytes: &mut [u8], weights: &[u8]) -> u64
     ensures { SmoothAnswered bytes.old weights.now bytes.new result }
 {
-    let samples = cell_bytes::cell_count(CELL * BlockKind::LARGEST, bytes.len());
+    let samples = cell_bytes::cell_count(CELL * LARGEST, bytes.len());
     let count = cell_bytes::fit_count(samples, weights.len());
     if samples <= MIDDLE {
-        let mut cells = [0i64; MIDDLE];
-        let mut values = [0i64; MIDDLE];
-        return smooth_in(bytes, weights, &mut cells[..samples], &mut values[..count]);
+        smooth_in::<MIDDLE>(bytes, weights, samples, count)
+    } else {
+        smooth_in::<LARGEST>(bytes, weights, samples, count)
     }
-    let mut cells = [0i64; BlockKind::LARGEST];
-    let mut values = [0i64; BlockKind::LARGEST];
-    smooth_in(bytes, weights, &mut cells[..samples], &mut values[..count])
 }
 
-// The same, with room for the cells that are read and for the weights.
-fn smooth_in(bytes: &mut [u8], weights: &[u8], cells: &mut [i64], values: &mut [i64]) -> u64
-    requires cells_len { length cells.old ≡ cell_count (CELL * LARGEST) (length bytes.old) }
-    requires values_len { length values.old ≡ fit_count (length cells.old) (length weights.now) }
+// The same in rooms of ROOM cells, for the cells that are read and for the weights.
+fn smooth_in<const ROOM: usize>(
+    bytes: &mut [u8],
+    weights: &[u8],
+    samples: usize,
+    count: usize,
+) -> u64
+    requires room { (samples ≤ ROOM) × (ROOM ≤ LARGEST) }
+    requires samples_len { samples ≡ cell_count (CELL * LARGEST) (length bytes.old) }
+    requires count_len { (count ≡ fit_count samples (length weights.now)) × (count ≤ samples) }
     ensures { SmoothAnswered bytes.old weights.now bytes.new result }
 {
+    let mut samples_room = [0i64; ROOM];
+    let mut weights_room = [0i64; ROOM];
+    let cells = &mut samples_room[..samples];
+    let values = &mut weights_room[..count];
     cell_bytes::decode(bytes, cells);
     cell_bytes::decode(weights, values);
     let answer = packing::packed(smoothing::smooth(cells, values));

@@ -1,27 +1,23 @@
 -- What the tests of smoothing tell: what is taken is a block of samples with as many weights, which are within their limit; and weights that do not fit are
 -- all answered alike.
--- Example: `(smoothing_taken xs ws kind e).light : running ws (length xs) ≤ LARGEST_WEIGHTS`, with e : tested_smoothing xs ws ≡ Taken kind.
+-- Example: `(smoothing_taken xs ws kind e).light : running ws (length xs) ≤ LARGEST_WEIGHTS`, with e : tested_smoothing xs ws ≡ Ok kind.
 use mathlib.Core.Path.{◌≡◌, refl, sym, ◌∙◌}
 use mathlib.Core.Bool.{Bool, true, false, true≢false}
 use mathlib.Core.List.{List}
 use Prim.Native.Nat.{ℕ, ◌^◌, ◌≤◌}
-use native.Mathlib.Omega.{arith}
 use borrow.Author.Tests.{eq-eqb, ne_eqb, eqb-true, eqb-false, ltb-false}
 use lib.Dec.{eqb, ltb}
 use lib.IntN.{ℤ, nat_abs}
 use lib.ListN.{length}
+use Rattle.std.specs.Prelude.{Option, Some, None, Ok}
 use Rattle.ints.specs.Cells.{cell}
 use Rattle.kind.specs.declared.BlockKind.{BlockKind}
-use Rattle.kind.specs.declared.KindFound.{KindFound}
-use Rattle.kind.specs.declared.KindFound.TheVariants.{Found, None}
 use Rattle.kind.specs.BlockKinds.{kind_of}
 use Rattle.kind.specs.Loudness.{LOUDEST_SAMPLE}
 use Rattle.refusal.specs.declared.Refusal.{Refusal}
 use Rattle.refusal.specs.declared.Refusal.TheVariants.{Misfit, Weights}
-use Rattle.block.specs.declared.BlockVerdict.{BlockVerdict}
-use Rattle.block.specs.declared.BlockVerdict.TheVariants.{Taken, Refused}
 use Rattle.block.specs.Tests.{misfit, of_length, refused_if, tested, tested_samples}
-use Rattle.block.proofs.Taken.{samples-accepted, samples-quiet}
+use Rattle.block.proofs.Taken.{passed, samples-accepted, samples-quiet}
 use Rattle.exact.specs.Smoothing.{LARGEST_WEIGHTS, running}
 use Rattle.smooth_tests.specs.Tests.{first_heavy, tested_smoothing}
 use Rattle.smooth_tests.proofs.Heavy.{heavy_none}
@@ -34,20 +30,12 @@ pub record SmoothingTaken (P : ℕ) (xs ws : List ℤ) : Type 0 where
   pub quiet : (i : ℕ) → nat_abs (cell xs i) ≤ LOUDEST_SAMPLE
   pub light : running ws (length xs) ≤ LARGEST_WEIGHTS
 
--- ---- a refusal, and a test that is passed
+-- ---- a refusal
 
 -- the tests that come after 2 change no refusal
-stays : (k : KindFound) (loud heavy : Bool) (third fourth : Refusal) → refused_if heavy fourth (refused_if loud third (refused_if true Misfit (of_length k))) ≡ refused_if true Misfit (of_length k)
+stays : (k : Option BlockKind) (loud heavy : Bool) (third fourth : Refusal) → refused_if heavy fourth (refused_if loud third (refused_if true Misfit (of_length k))) ≡ refused_if true Misfit (of_length k)
 stays None loud heavy third fourth = refl
-stays (Found kind) loud heavy third fourth = refl
-
-not_both : {A : Type 0} (refusal : Refusal) (kind : BlockKind) → Refused refusal ≡ Taken kind → A
-not_both refusal kind e = let z : ◌≡◌ {A = ℕ} 0 1 = cc in absurd (omega arith)
-
-passed : (fault : Bool) (refusal : Refusal) (k : BlockVerdict) (kind : BlockKind) → refused_if fault refusal k ≡ Taken kind → (fault ≡ false) × (k ≡ Taken kind)
-passed fault refusal (Refused earlier) kind e = not_both earlier kind e
-passed true refusal (Taken asked) kind e = not_both refusal kind e
-passed false refusal (Taken asked) kind e = (refl, e)
+stays (Some kind) loud heavy third fourth = refl
 
 module _ (xs ws : List ℤ) where
   -- ---- weights that do not fit, and weights that do
@@ -62,7 +50,7 @@ module _ (xs ws : List ℤ) where
 
   -- ---- what is taken
 
-  module _ (kind : BlockKind) (e : tested_smoothing xs ws ≡ Taken kind) where
+  module _ (kind : BlockKind) (e : tested_smoothing xs ws ≡ Ok kind) where
     fits : length ws ≡ length xs
     fits = go (eqb (length ws) (length xs)) refl
       where
@@ -70,7 +58,7 @@ module _ (xs ws : List ℤ) where
         go true f = eqb-true _ _ f
         go false f = let u = passed true Misfit (of_length (kind_of (length xs))) kind (sym (unfit_tested (eqb-false _ _ f)) ∙ e) in absurd (true≢false u.0)
 
-    both : (ltb (first_heavy ws) (length ws) ≡ false) × (tested_samples xs ≡ Taken kind)
+    both : (ltb (first_heavy ws) (length ws) ≡ false) × (tested_samples xs ≡ Ok kind)
     both = passed (ltb (first_heavy ws) (length ws)) (Weights (first_heavy ws)) (tested_samples xs) kind (sym (fit_tested fits) ∙ e)
 
     pub smoothing_taken : SmoothingTaken kind.p xs ws

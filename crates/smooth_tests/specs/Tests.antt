@@ -1,13 +1,14 @@
 -- Document 02, Item 7: smoothing tests 1, 2, 3 and 20 in turn, and the first fault decides.
 -- Example: of the weights 20,000, −12,767, 0, −1 the place of 20 is 3; of 20,000, −12,767, 0, 0 it is 4, their number, and nothing is refused.
-use Rattle.std.specs.Prelude.{cond, not, List, [], ◌∷◌, ℕ, suc, ◌+◌, eqb, ltb, ℤ, pos, neg_ℤ, nat_abs, length}
+use Rattle.std.specs.Prelude.{cond, not, List, [], ◌∷◌, ℕ, suc, ◌+◌, eqb, ltb, ℤ, pos, neg_ℤ, nat_abs, length, Result}
 use Rattle.kind.specs.BlockKinds.{exponent, kind_of}
 use Rattle.kind.specs.Loudness.{LEAST_SAMPLE, LARGEST_SAMPLE}
 use Rattle.refusal.specs.declared.Refusal.TheVariants.{Misfit, Loud, Weights}
-use Rattle.block.specs.declared.BlockVerdict.{BlockVerdict}
 use Rattle.block.specs.Tests.{first_loud, of_length, refused_if}
 use Rattle.block.specs.TestTable.{first_given}
 use Rattle.exact.specs.Smoothing.{LARGEST_WEIGHTS, running}
+use Rattle.kind.specs.declared.BlockKind.{BlockKind}
+use Rattle.refusal.specs.declared.Refusal.{Refusal}
 
 -- 20, weights: the place of the first weight where the sum of the magnitudes, which is `before` ahead of the first, passes the limit; the number of weights
 -- where none does
@@ -20,7 +21,7 @@ unfolding first_heavy_from
 first_heavy ws = first_heavy_from 0 ws
 
 -- 1, the block's length; 2, as many weights; 3, the samples; 20, the weights
-unfoldable pub tested_smoothing : List ℤ → List ℤ → BlockVerdict
+unfoldable pub tested_smoothing : List ℤ → List ℤ → Result BlockKind Refusal
 unfolding first_loud first_heavy
 tested_smoothing xs ws =
     let N = length xs in

@@ -12,9 +12,8 @@ use Rattle.ints.proofs.Powers.{same_power}
 use Rattle.ints.proofs.Slices.{everywhere}
 use Rattle.ints.proofs.Tables.{get_d_tabulate, length-tabulate}
 use Rattle.kind.specs.declared.BlockKind.{BlockKind}
-use Rattle.block.specs.declared.BlockVerdict.{BlockVerdict}
-use Rattle.block.specs.declared.BlockVerdict.TheVariants.{Taken, Refused}
-use Rattle.block.specs.declared.Answer.TheVariants.{Done}
+use Rattle.std.specs.Prelude.{Result, Ok, Err, OnOk}
+use Rattle.refusal.specs.declared.Refusal.{Refusal}
 use Rattle.block.specs.BlockAnswers.{block_answer, cells_left}
 use Rattle.spectrum.specs.Limits.{LARGEST_CELL}
 use Rattle.turns.specs.Turn.{CHOSEN, FullTurn, Pair}
@@ -40,7 +39,7 @@ any_pair P xs ws ys A e q full P' long = rw (same_power P' P (sym long ∙ A.lon
 -- ---- what the tests take
 
 module _ (xs ws : List ℤ) where
-  pub accepted : (kind : BlockKind) → tested_smoothing xs ws ≡ Taken kind → Accepted kind.p xs ws
+  pub accepted : (kind : BlockKind) → tested_smoothing xs ws ≡ Ok kind → Accepted kind.p xs ws
   accepted kind e = let t = smoothing_taken xs ws kind e in record {
     least = t.least;
     most = t.most;
@@ -50,15 +49,15 @@ module _ (xs ws : List ℤ) where
     light = rw t.long at t.light;
   }
 
-  pub done_any_pair : (ys : List ℤ) → block_answer (tested_smoothing xs ws) ≡ Done → ys ≡ smooth_left xs ws → AnyPair xs ws ys
+  pub done_any_pair : (ys : List ℤ) → ys ≡ smooth_left xs ws → OnOk (block_answer (tested_smoothing xs ws)) (AnyPair xs ws ys)
   done_any_pair ys = go (tested_smoothing xs ws) refl
     where
-      go : (k : BlockVerdict) → tested_smoothing xs ws ≡ k → block_answer k ≡ Done → ys ≡ cells_left (λ P. cyclic_sums xs ws) xs k → AnyPair xs ws ys
-      go (Taken kind) e d l = any_pair kind.p xs ws ys (accepted kind e) l
-      go (Refused refusal) e d l = let z : ◌≡◌ {A = ℕ} 0 1 = cc in absurd (omega arith)
+      go : (k : Result BlockKind Refusal) → tested_smoothing xs ws ≡ k → ys ≡ cells_left (λ P. cyclic_sums xs ws) xs k → OnOk (block_answer k) (AnyPair xs ws ys)
+      go (Ok kind) e l = any_pair kind.p xs ws ys (accepted kind e) l
+      go (Err refusal) e l = tt
 
   -- no sum is above 2^30, so that its bytes spell it
-  pub sums_small : (kind : BlockKind) → tested_smoothing xs ws ≡ Taken kind → (i : ℕ) → nat_abs (cell (cyclic_sums xs ws) i) ≤ LARGEST_CELL
+  pub sums_small : (kind : BlockKind) → tested_smoothing xs ws ≡ Ok kind → (i : ℕ) → nat_abs (cell (cyclic_sums xs ws) i) ≤ LARGEST_CELL
   unfolding cyclic_sums
   sums_small kind e = let A = accepted kind e in let N = length xs in
       everywhere (pos 0) (λ z. nat_abs z ≤ LARGEST_CELL) (omega arith) (tabulate N (cyclic_sum N xs ws)) (λ i h. let l : i < N = omega (arith, length-tabulate N (cyclic_sum N xs ws)) in

@@ -1,10 +1,9 @@
 // Exact smoothing of a block by weights, in its own cells (document 02, Item 7).
 #![tactic(auto)]
 
-ghost use Rattle.std.specs.Prelude.{◌≡◌, map, ℕ, ◌+◌, ◌*◌, ◌/◌, ◌≤◌, length};
+ghost use Rattle.std.specs.Prelude.{◌≡◌, map, ℕ, ◌+◌, ◌*◌, ◌/◌, ◌≤◌, ◌<◌, length, OnOk};
 ghost use Rattle.ints.specs.Cells.{cell};
 ghost use Rattle.block.specs.BlockAnswers.{answer_numbers, block_answer, verdict_numbers};
-ghost use Rattle.block.specs.declared.Answer.TheVariants.{Done};
 ghost use Rattle.residues.specs.Residue.{centred, residue};
 ghost use Rattle.turns.specs.Turn.{CHOSEN};
 ghost use Rattle.exact.specs.Smoothing.{combined, cyclic_sums, divided, restored, smoothed};
@@ -14,54 +13,54 @@ ghost use Rattle.smooth_tests.specs.Tests.{tested_smoothing};
 ghost use Rattle.smoothing.specs.Promises.{AnyPair, smooth_left, sums_left};
 ghost use Rattle.smoothing.specs.Inner.{Accepted, LineRoom, Lines, Spectra, lines_combined};
 
-use block::{Answer, BlockVerdict};
 use cyclic_sums::SHORT;
 use kind::BlockKind;
+use refusal::Refusal;
 
-// The largest block whose rooms are middle ones: a call clears its rooms, and such a block should not wait for those of the largest.
+// The largest block whose rooms are middle ones: a call clears its rooms, and such a block should not wait for those of the largest. Rooms are arrays, since there
+// is no heap; `lent_cells`, which lies above, has sizes of its own.
 const MIDDLE: usize = 128;
 
 // The cosines that a block of as many cells takes, over a quarter of the turn, both ends among them.
 const MIDDLE_QUARTER: usize = MIDDLE / 4 + 1;
 
 // The same for the largest block.
-const QUARTER: usize = BlockKind::LARGEST / 4 + 1;
+const LARGEST: usize = BlockKind::LARGEST;
+
+const LARGEST_QUARTER: usize = LARGEST / 4 + 1;
 
 // A half modulo 2^31 − 1: twice 2^30 is 2^31, which is 1.
 const HALF: i64 = 1073741824;
 
 // The block smoothed by the weights, cyclically and with no rounding, in the samples' place.
-pub fn smooth(cells: &mut [i64], weights: &[i64]) -> Answer
+pub fn smooth(cells: &mut [i64], weights: &[i64]) -> Result<(), Refusal>
     ensures answer { result ≡ block_answer (tested_smoothing cells.old weights.now) }
     ensures numbers { answer_numbers result ≡ verdict_numbers (tested_smoothing cells.old weights.now) }
     ensures cells { cells.new ≡ smooth_left cells.old weights.now }
-    ensures any_pair { result ≡ Done → AnyPair cells.old weights.now cells.new }
+    ensures any_pair { OnOk result (AnyPair cells.old weights.now cells.new) }
 {
-    match smooth_tests::tested(cells, weights) {
-        BlockVerdict::Refused(refusal) => Answer::Refused(refusal),
-        BlockVerdict::Taken(kind) => {
-            smooth_taken(cells, weights, kind.p);
-            Answer::Done
-        }
-    }
+    let kind = smooth_tests::tested(cells, weights)?;
+    smooth_taken(cells, weights, kind.p);
+    Ok(())
 }
 
 // The same of up to 32 samples, whose plain sums are formed sooner than their spectra: the sums go to a list of their own, and the cells are only read.
-pub fn smooth_short(cells: &[i64], weights: &[i64], turned: &mut [i64], sums: &mut [i64]) -> Answer
+pub fn smooth_short(
+    cells: &[i64],
+    weights: &[i64],
+    turned: &mut [i64],
+    sums: &mut [i64],
+) -> Result<(), Refusal>
     requires { (length cells.now ≤ SHORT) × (length turned.old ≡ 2 * length cells.now) × (length sums.old ≡ length cells.now) }
     ensures answer { result ≡ block_answer (tested_smoothing cells.now weights.now) }
     ensures sums { sums.new ≡ sums_left cells.now weights.now sums.old }
 {
-    match smooth_tests::tested(cells, weights) {
-        BlockVerdict::Refused(refusal) => Answer::Refused(refusal),
-        BlockVerdict::Taken(kind) => {
-            cyclic_sums::fill_sums(cells, weights, turned, sums);
-            Answer::Done
-        }
-    }
+    smooth_tests::tested(cells, weights)?;
+    cyclic_sums::fill_sums(cells, weights, turned, sums);
+    Ok(())
 }
 
-// The same of a block and weights that are taken.
+// The same of a block and weights that are taken. Cells, weights and p stay parameters, and what is accepted a clause: it speaks of cells that are changed.
 fn smooth_taken(cells: &mut [i64], weights: &[i64], p: usize)
     requires { Accepted p cells.old weights.now }
     ensures { cells.new ≡ cyclic_sums cells.old weights.now }
@@ -78,28 +77,34 @@ fn smooth_by_spectra(cells: &mut [i64], weights: &[i64], p: usize)
     requires { (3 ≤ p) × Accepted p cells.old weights.now }
     ensures { cells.new ≡ smoothed CHOSEN p cells.old weights.now }
 {
-    let len = cells.len();
-    if len <= MIDDLE {
-        let mut spectrum = [0i64; MIDDLE];
-        let mut quarter = [0i64; MIDDLE_QUARTER];
-        smooth_in(
-            cells,
-            weights,
-            &mut spectrum[..len],
-            &mut quarter[..len / 4 + 1],
-            p,
-        );
+    if cells.len() <= MIDDLE {
+        smooth_in_rooms::<MIDDLE, MIDDLE_QUARTER>(cells, weights, p);
     } else {
-        let mut spectrum = [0i64; BlockKind::LARGEST];
-        let mut quarter = [0i64; QUARTER];
-        smooth_in(
-            cells,
-            weights,
-            &mut spectrum[..len],
-            &mut quarter[..len / 4 + 1],
-            p,
-        );
+        smooth_in_rooms::<LARGEST, LARGEST_QUARTER>(cells, weights, p);
     }
+}
+
+// The same with rooms for so many cells and so many cosines.
+fn smooth_in_rooms<const CELLS: usize, const COSINES: usize>(
+    cells: &mut [i64],
+    weights: &[i64],
+    p: usize,
+)
+    requires le_p { (3 ≤ p) × Accepted p cells.old weights.now }
+    requires rooms { (length cells.old ≤ CELLS) × (length cells.old / 4 < COSINES) }
+    requires few { (CELLS ≤ 1024) × (COSINES ≤ 1024) }
+    ensures { cells.new ≡ smoothed CHOSEN p cells.old weights.now }
+{
+    let len = cells.len();
+    let mut spectrum = [0i64; CELLS];
+    let mut quarter = [0i64; COSINES];
+    smooth_in(
+        cells,
+        weights,
+        &mut spectrum[..len],
+        &mut quarter[..len / 4 + 1],
+        p,
+    );
 }
 
 // The same in rooms for the spectrum of the weights and for the cosines. That of the block is made in its own cells.
@@ -129,11 +134,9 @@ fn combine(cells: &mut [i64], spectrum: &[i64])
     ensures { Stands FIRST (length cells.old) (combined (length cells.old) cells.old spectrum.now) cells.new }
 {
     combine_lines(cells, spectrum, 0, 0);
-    let mut v = 1;
-    while v <= cells.len() / 2 {
+    for v in 1..cells.len() / 2 + 1 {
         let opposite = cells.len() - v;
         combine_lines(cells, spectrum, v, opposite);
-        v += 1;
     }
 }
 
@@ -163,11 +166,8 @@ fn restore(cells: &mut [i64], p: usize)
     requires { (1 ≤ p) × (p ≤ 10) × ((i : ℕ) → LineRoom (cell cells.old i)) }
     ensures { cells.new ≡ map (restored p) cells.old }
 {
-    let mut t = 0;
-    while t < cells.len() {
-        let z = cells[t];
-        cells[t] = restored(p, z);
-        t += 1;
+    for z in cells.iter_mut() {
+        *z = restored(p, *z);
     }
 }
 

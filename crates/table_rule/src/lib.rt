@@ -2,7 +2,7 @@
 // turn's cosine is folded back to a quarter's. No number of the table stands here.
 #![tactic(auto)]
 
-ghost use Rattle.std.specs.Prelude.{◌≡◌, ◌+◌, ◌-◌, ◌/◌, ◌≤◌, ◌^◌, nat_abs, pos, neg_ℤ, length};
+ghost use Rattle.std.specs.Prelude.{◌≡◌, ◌+◌, ◌-◌, ◌/◌, ◌≤◌, ◌^◌, nat_abs, length};
 ghost use Rattle.ints.specs.Tabulate.{tabulate};
 ghost use Rattle.kind.specs.BlockKinds.{SCALE_DIGITS};
 ghost use Rattle.cosine.specs.Cosine.{cosine, fine_with, half_angle, quarter_table};
@@ -29,10 +29,8 @@ fn fill(s: usize, table: &mut [u32])
     requires { s ≤ 22 }
     ensures { table.new ≡ tabulate (length table.old) (quarter_table s) }
 {
-    let mut j = 0;
-    while j < table.len() {
-        table[j] = at_scale(s, quarter_cosine(DOUBLINGS, j));
-        j += 1;
+    for (j, entry) in table.iter_mut().enumerate() {
+        *entry = at_scale(s, quarter_cosine(DOUBLINGS, j));
     }
 }
 
@@ -68,9 +66,9 @@ fn turn_cosine(doublings: usize, step: usize) -> i64
 {
     let k = quarter::steps_away(step);
     if k <= 256 {
-        signed(quarter_cosine(doublings, k))
+        quarter_cosine(doublings, k) as i64
     } else {
-        negated(quarter_cosine(doublings, 512 - k))
+        -(quarter_cosine(doublings, 512 - k) as i64)
     }
 }
 
@@ -80,20 +78,4 @@ fn half_angle(twice: i64) -> u64
     ensures { result ≡ half_angle 60 twice }
 {
     roots::long_root(2 * ((ONE as i64 + twice) as u64))
-}
-
-// A cosine as a signed number.
-fn signed(cosine: u64) -> i64
-    requires { cosine ≤ 2 ^ 60 }
-    ensures { result ≡ pos cosine }
-{
-    cosine as i64
-}
-
-// Minus a cosine.
-fn negated(cosine: u64) -> i64
-    requires { cosine ≤ 2 ^ 60 }
-    ensures { result ≡ neg_ℤ (pos cosine) }
-{
-    0 - cosine as i64
 }

@@ -11,7 +11,7 @@ ghost use Rattle.table_text.specs.TableText.{LINE_BYTES, number_lines, table_tex
 // Room for every table: 257 lines of ten digits and a line feed.
 pub const ROOM: usize = 257 * 11;
 
-// The engine's quarter table, in the lent bytes; the answer is how many it takes, and the bytes after them are kept.
+// The engine's quarter table, in the lent bytes; the answer is how many it takes, which the clauses name, and the bytes after them are kept.
 pub fn put_table(out: &mut [u8; ROOM]) -> usize
     ensures used { result ≡ length (table_text SCALE_DIGITS) }
     ensures text { out.new ≡ written out.old 0 (table_text SCALE_DIGITS) }
@@ -25,11 +25,9 @@ fn put_numbers(numbers: &[u32], out: &mut [u8]) -> usize
     requires { LINE_BYTES * length numbers.now ≤ length out.old }
     ensures { Put (number_lines numbers.now) out.old 0 out.new result × (result ≤ length out.new) }
 {
-    let mut j = 0;
     let mut at = 0;
-    while j < numbers.len() {
-        at = put_number(numbers[j], out, at);
-        j += 1;
+    for number in numbers {
+        at = put_number(*number, out, at);
     }
     at
 }
@@ -39,5 +37,5 @@ fn put_number(number: u32, out: &mut [u8], at: usize) -> usize
     requires { at + LINE_BYTES ≤ length out.old }
     ensures { Put (text_line (decimal number ∷ [])) out.old at out.new result × (result ≤ at + LINE_BYTES) }
 {
-    text::put_decimal(number as u64, b'\n', out, at)
+    text::put_decimal(u64::from(number), b'\n', out, at)
 }

@@ -11,7 +11,8 @@ use borrow.Author.Tests.{lt-ltb, le-ltb, ltb-true, ltb-false}
 use lib.Dec.{ltb}
 use lib.IntN.{ℤ, pos, negsuc, nat_abs}
 use lib.ListN.{length, length-append}
-use Rattle.ints.proofs.Comparisons.{Less, AtMost}
+use lib.Signed.{le_z}
+use Rattle.std.proofs.lemmas.Int.{ints}
 use Rattle.text.specs.Decimals.{MINUS, decimal, digit, digits, signed_decimal}
 
 -- ---- one digit alone, or more
@@ -34,8 +35,15 @@ same_digits zero k n h l = absurd (omega arith)
 same_digits (suc m) zero n h l = absurd (omega arith)
 same_digits (suc m) (suc k) n h l = same_text n (digits m (n / 10)) (digits k (n / 10)) (λ t. same_digits m k (n / 10) (omega arith) (omega arith))
 
+-- the digits of n but for the last: those of n / 10, unless n has one alone
+abbrev pub front_digits : ℕ → List ℕ
+front_digits n = cond (ltb n 10) [] (decimal (n / 10))
+
+pub front_digits-are : (n : ℕ) → 1 ≤ length (front_digits n) → front_digits n ≡ decimal (n / 10)
+front_digits-are n h = ⊎_elim (λ t. absurd (omega (arith, rw (lt-ltb n 10 t) at h))) (λ t. rw (le-ltb n 10 t) refl) (one_or_more n)
+
 -- every number's text is that of n / 10, unless n has one digit alone, and then its last digit
-decimal-is : (n : ℕ) → decimal n ≡ (cond (ltb n 10) [] (decimal (n / 10))) ++ (digit (n % 10) ∷ [])
+pub decimal-is : (n : ℕ) → decimal n ≡ front_digits n ++ (digit (n % 10) ∷ [])
 unfolding decimal digits
 decimal-is n = same_text n (digits n (n / 10)) (decimal (n / 10)) (λ t. same_digits n (suc (n / 10)) (n / 10) (omega arith) (omega arith))
 
@@ -47,7 +55,7 @@ decimal_more n h = decimal-is n ∙ rw (le-ltb n 10 h) refl
 
 -- ---- how many digits
 
-length_one : (n : ℕ) → n < 10 → length (decimal n) ≡ 1
+pub length_one : (n : ℕ) → n < 10 → length (decimal n) ≡ 1
 length_one n h = ap length (decimal_one n h)
 
 pub length_more : (n : ℕ) → 10 ≤ n → length (decimal n) ≡ length (decimal (n / 10)) + 1
@@ -74,15 +82,15 @@ decimal_longer (suc d) n h = let tens = pow-suc 10 d in let fewer = decimal_long
 
 -- ---- the sign
 
-pub signed_below : (z : ℤ) (m : ℕ) → m ≡ nat_abs z → Less z (pos 0) → MINUS ∷ decimal m ≡ signed_decimal z
+pub signed_below : (z : ℤ) → le_z (pos 0) z ≡ false → MINUS ∷ decimal (nat_abs z) ≡ signed_decimal z
 unfolding signed_decimal
-signed_below (pos n) m e h = absurd (omega arith)
-signed_below (negsuc n) m e h = rw e refl
+signed_below (pos n) h = grind (arith, ints)
+signed_below (negsuc n) h = refl
 
-pub signed-from_zero : (z : ℤ) (m : ℕ) → m ≡ nat_abs z → AtMost (pos 0) z → decimal m ≡ signed_decimal z
+pub signed-from_zero : (z : ℤ) → le_z (pos 0) z ≡ true → decimal (nat_abs z) ≡ signed_decimal z
 unfolding signed_decimal
-signed-from_zero (pos n) m e h = rw e refl
-signed-from_zero (negsuc n) m e h = absurd (omega arith)
+signed-from_zero (pos n) h = refl
+signed-from_zero (negsuc n) h = grind (arith, ints)
 
 pub signed_natural : (n : ℕ) → signed_decimal (pos n) ≡ decimal n
 unfolding signed_decimal

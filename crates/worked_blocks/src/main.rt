@@ -3,33 +3,22 @@
 
 ghost use Rattle.std.specs.Prelude.{◌≡◌, ◌^◌, ◌≤◌, length, nat_abs};
 
-use block::{Answer, BlockVerdict};
 use fourier::ScaledLine;
+use ints::Scale;
 use kind::{BlockKind, Line};
-use printing::{
-    print_cells, print_line_end, print_refusal, print_signed, print_text, print_unsigned,
-};
-use std::io::Result;
+use printing::Cells;
+use refusal::Refusal;
+use std::io;
 
-fn main(rt: HostRuntime) -> Result<()> {
+fn main(rt: HostRuntime) -> io::Result<()> {
     constants(&rt)?;
     // T at 0, 64, 128, 192, 256, and one step of each later quarter
-    cosine_at(&rt, 0)?;
-    cosine_at(&rt, 64)?;
-    cosine_at(&rt, 128)?;
-    cosine_at(&rt, 192)?;
-    cosine_at(&rt, 256)?;
-    cosine_at(&rt, 384)?;
-    cosine_at(&rt, 512)?;
-    cosine_at(&rt, 704)?;
-    cosine_at(&rt, 960)?;
-    cosine_at(&rt, 1088)?;
-    sine_at(&rt, 0)?;
-    sine_at(&rt, 64)?;
-    sine_at(&rt, 256)?;
-    sine_at(&rt, 448)?;
-    sine_at(&rt, 640)?;
-    sine_at(&rt, 768)?;
+    for step in [0, 64, 128, 192, 256, 384, 512, 704, 960, 1088] {
+        cosine_at(&rt, step)?;
+    }
+    for step in [0, 64, 256, 448, 640, 768] {
+        sine_at(&rt, step)?;
+    }
     rounding_of(&rt, 8192 * 23170)?;
     rounding_of(&rt, -8192 * 23170)?;
     tested_length(&rt, 0)?;
@@ -48,73 +37,62 @@ fn main(rt: HostRuntime) -> Result<()> {
 }
 
 // The named constants of the block's kind.
-fn constants(rt: &impl Print) -> Result<()> {
-    print_text(rt, b"constants")?;
-    print_unsigned(rt, BlockKind::LARGEST)?;
-    print_unsigned(rt, BlockKind::TURN)?;
-    print_unsigned(rt, BlockKind::SCALE)?;
-    print_unsigned(rt, BlockKind::SCALE_DIGITS)?;
-    print_line_end(rt)
+fn constants(rt: &impl Print) -> io::Result<()> {
+    println!(rt;
+        "constants {} {} {} {}",
+        BlockKind::LARGEST,
+        BlockKind::TURN,
+        BlockKind::SCALE,
+        BlockKind::SCALE_DIGITS
+    )
 }
 
 // The engine's cosine of a step.
-fn cosine_at(rt: &impl Print, step: usize) -> Result<()> {
-    print_text(rt, b"cosine")?;
-    print_unsigned(rt, step)?;
-    print_signed(rt, quarter::cosine(&quarter::quarter_table(), step))?;
-    print_line_end(rt)
+fn cosine_at(rt: &impl Print, step: usize) -> io::Result<()> {
+    println!(rt;
+        "cosine {step} {}",
+        quarter::cosine(&quarter::quarter_table(), step)
+    )
 }
 
 // The engine's sine of a step.
-fn sine_at(rt: &impl Print, step: usize) -> Result<()> {
-    print_text(rt, b"sine")?;
-    print_unsigned(rt, step)?;
-    print_signed(rt, quarter::sine(&quarter::quarter_table(), step))?;
-    print_line_end(rt)
+fn sine_at(rt: &impl Print, step: usize) -> io::Result<()> {
+    println!(rt;
+        "sine {step} {}",
+        quarter::sine(&quarter::quarter_table(), step)
+    )
 }
 
 // The rounding of a level.
-fn rounding_of(rt: &impl Print, x: i64) -> Result<()>
+fn rounding_of(rt: &impl Print, x: i64) -> io::Result<()>
     requires { nat_abs x ≤ 2 ^ 62 }
 {
-    print_text(rt, b"rounded")?;
-    print_signed(rt, x)?;
-    let half = (BlockKind::SCALE / 2) as i64;
-    print_signed(rt, ints::rounded(BlockKind::SCALE_DIGITS, half, x))?;
-    print_line_end(rt)
+    println!(rt;
+        "rounded {x} {}",
+        Scale::by(BlockKind::SCALE_DIGITS).rounded(x)
+    )
 }
 
-// What the test of a block of samples says of so many zeros.
-fn tested_length(rt: &impl Print, len: usize) -> Result<()>
+// What the test of a block of samples says of so many zeros: the kind of a block that is taken, as P, or the refusal.
+fn tested_length(rt: &impl Print, len: usize) -> io::Result<()>
     requires { len ≤ 2048 }
 {
-    print_text(rt, b"length")?;
-    print_unsigned(rt, len)?;
+    print!(rt; "length {len}")?;
     let cells = zeros();
-    print_verdict(rt, block::tested_samples(&cells[..len]))
-}
-
-// The kind of a block that is taken, as P, or the refusal.
-fn print_verdict(rt: &impl Print, verdict: BlockVerdict) -> Result<()> {
-    match verdict {
-        BlockVerdict::Taken(kind) => {
-            print_text(rt, b" P")?;
-            print_unsigned(rt, kind.p)?;
-        }
-        BlockVerdict::Refused(refusal) => print_refusal(rt, refusal)?,
+    match block::tested_samples(&cells[..len]) {
+        Ok(kind) => println!(rt; " P {}", kind.p),
+        Err(refusal) => println!(rt; " {refusal}"),
     }
-    print_line_end(rt)
 }
 
 // What forward answers to so many zeros.
-fn forward_of_zeros(rt: &impl Print, len: usize) -> Result<()>
+fn forward_of_zeros(rt: &impl Print, len: usize) -> io::Result<()>
     requires { len ≤ 2048 }
 {
-    print_text(rt, b"forward of zeros")?;
-    print_unsigned(rt, len)?;
+    print!(rt; "forward of zeros {len}")?;
     let mut cells = zeros();
     print_answer(rt, hartley::forward(&mut cells[..len]))?;
-    print_line_end(rt)
+    println!(rt)
 }
 
 // Twice as many zeros as the largest block has cells.
@@ -125,18 +103,15 @@ fn zeros() -> [i64; 2048]
 }
 
 // What a call answers, after a colon.
-fn print_answer(rt: &impl Print, answer: Answer) -> Result<()> {
+fn print_answer(rt: &impl Print, answer: Result<(), Refusal>) -> io::Result<()> {
     match answer {
-        Answer::Done => print_text(rt, b": done"),
-        Answer::Refused(refusal) => {
-            print_text(rt, b":")?;
-            print_refusal(rt, refusal)
-        }
+        Ok(()) => print!(rt; ": done"),
+        Err(refusal) => print!(rt; ": {refusal}"),
     }
 }
 
 // Blocks forward, and spectra backward.
-fn blocks(rt: &impl Print) -> Result<()> {
+fn blocks(rt: &impl Print) -> io::Result<()> {
     forward_of(rt, &mut [0, 0])?;
     forward_of(rt, &mut [3, -5])?;
     forward_of(rt, &mut [1, 2, 3, 4])?;
@@ -158,28 +133,27 @@ fn blocks(rt: &impl Print) -> Result<()> {
 }
 
 // The cells lent to forward, its answer, and the cells that it leaves.
-fn forward_of(rt: &impl Print, cells: &mut [i64]) -> Result<()> {
-    print_cells(rt, b"forward of", cells)?;
+fn forward_of(rt: &impl Print, cells: &mut [i64]) -> io::Result<()> {
+    print!(rt; "forward of{}", Cells(cells))?;
     let answer = hartley::forward(cells);
     print_left(rt, answer, cells)
 }
 
 // The same for backward.
-fn backward_of(rt: &impl Print, cells: &mut [i64]) -> Result<()> {
-    print_cells(rt, b"backward of", cells)?;
+fn backward_of(rt: &impl Print, cells: &mut [i64]) -> io::Result<()> {
+    print!(rt; "backward of{}", Cells(cells))?;
     let answer = hartley::backward(cells);
     print_left(rt, answer, cells)
 }
 
 // The answer of a call, and the cells that it leaves.
-fn print_left(rt: &impl Print, answer: Answer, cells: &[i64]) -> Result<()> {
+fn print_left(rt: &impl Print, answer: Result<(), Refusal>, cells: &[i64]) -> io::Result<()> {
     print_answer(rt, answer)?;
-    print_cells(rt, b", cells", cells)?;
-    print_line_end(rt)
+    println!(rt; ", cells{}", Cells(cells))
 }
 
 // The parts and powers of the listing's block first.
-fn parts_and_powers(rt: &impl Print) -> Result<()> {
+fn parts_and_powers(rt: &impl Print) -> io::Result<()> {
     let listed = [10, -4, -2, 0];
     parts_of(rt, &listed, 3, 3)?;
     power_of(rt, &listed, 3)?;
@@ -194,7 +168,12 @@ fn parts_and_powers(rt: &impl Print) -> Result<()> {
 }
 
 // What parts answers for lists of so many cells, which hold 7.
-fn parts_of(rt: &impl Print, spectrum: &[i64], real_len: usize, imaginary_len: usize) -> Result<()>
+fn parts_of(
+    rt: &impl Print,
+    spectrum: &[i64],
+    real_len: usize,
+    imaginary_len: usize,
+) -> io::Result<()>
     requires { (real_len ≤ 4) × (imaginary_len ≤ 4) }
 {
     let mut real = [7; 4];
@@ -213,16 +192,14 @@ fn parts_into(
     spectrum: &[i64],
     real: &mut [i64],
     imaginary: &mut [i64],
-) -> Result<()> {
-    print_cells(rt, b"parts of", spectrum)?;
+) -> io::Result<()> {
+    print!(rt; "parts of{}", Cells(spectrum))?;
     print_answer(rt, fourier::parts(spectrum, real, imaginary))?;
-    print_cells(rt, b", real", real)?;
-    print_cells(rt, b", imaginary", imaginary)?;
-    print_line_end(rt)
+    println!(rt; ", real{}, imaginary{}", Cells(real), Cells(imaginary))
 }
 
 // What power answers for a list of so many cells, which hold 7.
-fn power_of(rt: &impl Print, spectrum: &[i64], len: usize) -> Result<()>
+fn power_of(rt: &impl Print, spectrum: &[i64], len: usize) -> io::Result<()>
     requires { len ≤ 4 }
 {
     let mut powers = [7; 4];
@@ -230,15 +207,14 @@ fn power_of(rt: &impl Print, spectrum: &[i64], len: usize) -> Result<()>
 }
 
 // The spectrum lent to power, the answer, and the list that it leaves.
-fn power_into(rt: &impl Print, spectrum: &[i64], powers: &mut [i64]) -> Result<()> {
-    print_cells(rt, b"power of", spectrum)?;
+fn power_into(rt: &impl Print, spectrum: &[i64], powers: &mut [i64]) -> io::Result<()> {
+    print!(rt; "power of{}", Cells(spectrum))?;
     print_answer(rt, fourier::power(spectrum, powers))?;
-    print_cells(rt, b", power", powers)?;
-    print_line_end(rt)
+    println!(rt; ", power{}", Cells(powers))
 }
 
 // Every line of four cells and of two, a zero, and lines that there are not.
-fn scaled_lines(rt: &impl Print) -> Result<()> {
+fn scaled_lines(rt: &impl Print) -> io::Result<()> {
     let four = [10, -4, -2, 0];
     let two = [-2, 8];
     scaled_of(rt, &four, 0)?;
@@ -264,40 +240,39 @@ fn scaled_lines(rt: &impl Print) -> Result<()> {
     scaled_of(rt, &[0, 0, 0, 0], 18446744073709551615)
 }
 
-// A line of a spectrum, scaled.
-fn scaled_of(rt: &impl Print, spectrum: &[i64], line: usize) -> Result<()> {
-    print_text(rt, b"line")?;
-    print_unsigned(rt, line)?;
-    print_cells(rt, b" of", spectrum)?;
-    print_text(rt, b":")?;
-    print_scaled(rt, fourier::scaled(spectrum, Line(line)))?;
-    print_line_end(rt)
+// A line of a spectrum, scaled: its values, or the refusal.
+fn scaled_of(rt: &impl Print, spectrum: &[i64], line: usize) -> io::Result<()> {
+    print!(rt; "line {line} of{}:", Cells(spectrum))?;
+    match fourier::scaled(spectrum, Line(line)) {
+        Ok(scaled) => print_scaled(rt, scaled)?,
+        Err(refusal) => print!(rt; " {refusal}")?,
+    }
+    println!(rt)
 }
 
-// The values of a scaled line, or the refusal.
-fn print_scaled(rt: &impl Print, scaled: ScaledLine) -> Result<()> {
+// The values of a scaled line.
+fn print_scaled(rt: &impl Print, scaled: ScaledLine) -> io::Result<()> {
     match scaled {
-        ScaledLine::Mean(mean) => print_value(rt, b" mean ", mean),
-        ScaledLine::Last(last) => print_value(rt, b" last ", last),
+        ScaledLine::Mean(mean) => print_value(rt, "mean", mean),
+        ScaledLine::Last(last) => print_value(rt, "last", last),
         ScaledLine::Pair(pair) => {
-            print_value(rt, b" real ", pair.real)?;
-            print_value(rt, b" imaginary ", pair.imaginary)
+            print_value(rt, "real", pair.real)?;
+            print_value(rt, "imaginary", pair.imaginary)
         }
-        ScaledLine::Refused(refusal) => print_refusal(rt, refusal),
     }
 }
 
 // A word and an f64, cut to three decimals, with a minus before what is negative and before minus zero.
-fn print_value(rt: &impl Print, word: &[u8], x: f64) -> Result<()> {
-    print_text(rt, word)?;
+fn print_value(rt: &impl Print, word: &str, x: f64) -> io::Result<()> {
+    print!(rt; " {word} ")?;
     if x < 0.0 || 1.0 / x < 0.0 {
-        print_text(rt, b"-")?;
+        print!(rt; "-")?;
     }
     print_thousandths(rt, x * 1000.0)
 }
 
 // A number of thousandths without its sign, if it is an i64.
-fn print_thousandths(rt: &impl Print, x: f64) -> Result<()> {
+fn print_thousandths(rt: &impl Print, x: f64) -> io::Result<()> {
     if x >= -9223372036854775808.0 {
         if x < 9223372036854775808.0 {
             return print_decimals(rt, ints::magnitude(std::num::truncating_f64_to_i64(x)));
@@ -307,7 +282,7 @@ fn print_thousandths(rt: &impl Print, x: f64) -> Result<()> {
 }
 
 // So many thousandths, with three decimals.
-fn print_decimals(rt: &impl Print, thousandths: u64) -> Result<()> {
+fn print_decimals(rt: &impl Print, thousandths: u64) -> io::Result<()> {
     let whole = thousandths / 1000;
     let decimals = thousandths % 1000;
     print!(rt; "{whole}.{decimals:03}")

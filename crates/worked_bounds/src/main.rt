@@ -1,12 +1,7 @@
 // Document 02, Item 6: bounds worked by hand, run. What is printed is held to the file stdout, which was worked by hand from the document.
 #![tactic(auto)]
 
-ghost use Rattle.std.specs.Prelude.{◌≡◌, length};
-
-use distance::BoundAnswer;
-use printing::{
-    print_cells, print_line_end, print_refusal, print_signed, print_text, print_unsigned,
-};
+use printing::{Answer, Cells};
 use std::io::Result;
 
 fn main(rt: HostRuntime) -> Result<()> {
@@ -35,34 +30,21 @@ fn refusals(rt: &impl Print) -> Result<()> {
     bound_of_zeros_and(rt, 32768)
 }
 
-// What is answered of a block.
+// What is answered of a block: the bound, or the refusal.
 fn bound_of(rt: &impl Print, cells: &[i64]) -> Result<()> {
-    print_cells(rt, b"bound of", cells)?;
-    print_bound(rt, distance::bound(cells))
+    println!(rt;
+        "bound of{}:{}",
+        Cells(cells),
+        Answer(distance::bound(cells))
+    )
 }
 
 // The same of 1,024 cells that are 0, but for cell 1,000, which is x.
 fn bound_of_zeros_and(rt: &impl Print, x: i64) -> Result<()> {
-    print_text(rt, b"bound of zeros and")?;
-    print_signed(rt, x)?;
-    print_bound(rt, distance::bound(&zeros_and(x)))
-}
-
-// Those cells.
-fn zeros_and(x: i64) -> [i64; 1024]
-    ensures { 1024 ≡ length result }
-{
     let mut cells = [0; 1024];
     cells[1000] = x;
-    cells
-}
-
-// The bound, or the refusal, after a colon.
-fn print_bound(rt: &impl Print, answer: BoundAnswer) -> Result<()> {
-    print_text(rt, b":")?;
-    match answer {
-        BoundAnswer::Bound(bound) => print_unsigned(rt, bound as usize)?,
-        BoundAnswer::Refused(refusal) => print_refusal(rt, refusal)?,
-    }
-    print_line_end(rt)
+    println!(rt;
+        "bound of zeros and {x}:{}",
+        Answer(distance::bound(cells.as_slice()))
+    )
 }

@@ -1,7 +1,6 @@
 // Whole square roots (document 01, Cosines), run. What is printed is held to the file stdout, which was worked by hand.
 #![tactic(auto)]
 
-use printing::{print_line_end, print_text, print_unsigned};
 use std::io::Result;
 
 fn main(rt: HostRuntime) -> Result<()> {
@@ -30,20 +29,10 @@ fn main(rt: HostRuntime) -> Result<()> {
 
 // The root of x.
 fn root_of(rt: &impl Print, x: u64) -> Result<()> {
-    print_text(rt, b"root of")?;
-    print_root(rt, x, roots::root(x))
+    println!(rt; "root of {x}: {}", roots::root(x))
 }
 
 // The root of x × 4^29.
 fn long_root_of(rt: &impl Print, x: u64) -> Result<()> {
-    print_text(rt, b"long root of")?;
-    print_root(rt, x, roots::long_root(x))
-}
-
-// The number, and its root after a colon.
-fn print_root(rt: &impl Print, x: u64, root: u64) -> Result<()> {
-    print_unsigned(rt, x as usize)?;
-    print_text(rt, b":")?;
-    print_unsigned(rt, root as usize)?;
-    print_line_end(rt)
+    println!(rt; "long root of {x}: {}", roots::long_root(x))
 }

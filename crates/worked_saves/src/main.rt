@@ -3,18 +3,16 @@
 // bytes are kept. A trace that is saved follows in hex, as in the documents, and is read back by check and fetch.
 #![tactic(auto)]
 
-ghost use Rattle.std.specs.Prelude.{◌≡◌, ◌≤◌, ◌<◌, length, IfOk};
+ghost use Rattle.std.specs.Prelude.{◌≡◌, ◌≤◌, length, IfOk, IfSome};
 ghost use Rattle.save_tests.specs.Save.{as_head, saving, trace_left};
 
-use printing::{print_cells, print_line_end, print_refusal, print_text, print_unsigned};
-use save_tests::SaveAnswer;
-use std::io::Result;
-use trace::TraceAnswer;
+use printing::{Answer, Cells, Said};
+use std::io;
 
 // What every lent byte holds before a save.
 const LENT: u8 = 0xAA;
 
-fn main(rt: HostRuntime) -> Result<()> {
+fn main(rt: HostRuntime) -> io::Result<()> {
     listing(&rt)?;
     no_blocks(&rt)?;
     sample_bytes(&rt)?;
@@ -27,7 +25,7 @@ fn main(rt: HostRuntime) -> Result<()> {
 }
 
 // The listing's trace, in as many bytes as it has and in four more; and its cells in two blocks.
-fn listing(rt: &impl Print) -> Result<()> {
+fn listing(rt: &impl Print) -> io::Result<()> {
     let cells = [1, 2, 3, 4];
     saved(rt, 8000, 2, &cells, 32)?;
     saved(rt, 8000, 2, &cells, 36)?;
@@ -35,19 +33,19 @@ fn listing(rt: &impl Print) -> Result<()> {
 }
 
 // A head and an end; the same with the least rate and P, and with the largest.
-fn no_blocks(rt: &impl Print) -> Result<()> {
+fn no_blocks(rt: &impl Print) -> io::Result<()> {
     saved_empty(rt, 8000, 2, 18)?;
     saved_empty(rt, 1, 1, 18)?;
     saved_empty(rt, 4294967295, 10, 20)
 }
 
 // The limits of a sample, its sign and the order of its bytes.
-fn sample_bytes(rt: &impl Print) -> Result<()> {
+fn sample_bytes(rt: &impl Print) -> io::Result<()> {
     saved(rt, 8000, 1, &[-32768, 32767, -1, -256, 255, 513], 48)
 }
 
 // 15: rates and P beyond their limits, where nothing else is wrong.
-fn heads(rt: &impl Print) -> Result<()> {
+fn heads(rt: &impl Print) -> io::Result<()> {
     saved_empty(rt, 0, 1, 18)?;
     saved_empty(rt, 4294967296, 1, 18)?;
     saved_empty(rt, 18446744073709551615, 1, 18)?;
@@ -57,13 +55,13 @@ fn heads(rt: &impl Print) -> Result<()> {
 }
 
 // 1: a block and a half, and half a block.
-fn lengths(rt: &impl Print) -> Result<()> {
+fn lengths(rt: &impl Print) -> io::Result<()> {
     saved(rt, 8000, 1, &[1, 2, 3], 48)?;
     saved(rt, 8000, 3, &[1, 2, 3, 4], 48)
 }
 
 // 3: just beyond the limits of a sample, and far beyond them; the first of two loud cells.
-fn loud_cells(rt: &impl Print) -> Result<()> {
+fn loud_cells(rt: &impl Print) -> io::Result<()> {
     saved(rt, 8000, 1, &[1, 2, 32768, 4], 38)?;
     saved(rt, 8000, 2, &[1, 2, -32769, 4], 32)?;
     saved(rt, 8000, 1, &[-9223372036854775808, 2], 28)?;
@@ -71,7 +69,7 @@ fn loud_cells(rt: &impl Print) -> Result<()> {
 }
 
 // 2: one byte too few, and no byte at all.
-fn misfits(rt: &impl Print) -> Result<()> {
+fn misfits(rt: &impl Print) -> io::Result<()> {
     let cells = [1, 2, 3, 4];
     saved(rt, 8000, 2, &cells, 31)?;
     saved(rt, 8000, 1, &cells, 37)?;
@@ -80,7 +78,7 @@ fn misfits(rt: &impl Print) -> Result<()> {
 }
 
 // 15 before 1, 3 and 2; 1 before 3 and 2; 3 before 2.
-fn order(rt: &impl Print) -> Result<()> {
+fn order(rt: &impl Print) -> io::Result<()> {
     let cells = [1, 2, 32768];
     saved(rt, 0, 1, &cells, 27)?;
     saved(rt, 8000, 1, &cells, 27)?;
@@ -88,22 +86,22 @@ fn order(rt: &impl Print) -> Result<()> {
 }
 
 // 10: 6,551 blocks of two cells are 65,528 bytes, and with one block more 65,538. 3 comes before 10, and 10 before 2.
-fn long_runs(rt: &impl Print) -> Result<()> {
+fn long_runs(rt: &impl Print) -> io::Result<()> {
     long_saved(rt, 13102, 65528)?;
     long_saved(rt, 13104, 65538)?;
     long_saved(rt, 13104, 18)?;
     long_saved(rt, 13106, 18)
 }
 
-// Saves no cells where so many bytes are lent.
-fn saved_empty(rt: &impl Print, rate: usize, p: usize, room: usize) -> Result<()>
+// Saves no cells where so many bytes are lent. Rate and P stay two numbers, as `save` takes them.
+fn saved_empty(rt: &impl Print, rate: usize, p: usize, room: usize) -> io::Result<()>
     requires { room ≤ 48 }
 {
     saved(rt, rate, p, &[], room)
 }
 
 // Saves a run of cells where so many bytes are lent.
-fn saved(rt: &impl Print, rate: usize, p: usize, cells: &[i64], room: usize) -> Result<()>
+fn saved(rt: &impl Print, rate: usize, p: usize, cells: &[i64], room: usize) -> io::Result<()>
     requires { room ≤ 48 }
 {
     let mut bytes = [LENT; 48];
@@ -117,12 +115,10 @@ fn saved_into(
     p: usize,
     cells: &[i64],
     bytes: &mut [u8],
-) -> Result<()> {
+) -> io::Result<()> {
     print_asked(rt, rate, p, bytes.len())?;
-    print_cells(rt, b" cells", cells)?;
-    let used = answered(rt, rate, p, cells, bytes)?;
-    print_kept(rt, bytes, used)?;
-    if 0 < used {
+    print!(rt; " cells{}", Cells(cells))?;
+    if let Some(used) = answered(rt, rate, p, cells, bytes)? {
         print_bytes(rt, &bytes[..used])?;
         read_back(rt, &bytes[..used])?;
     }
@@ -130,7 +126,7 @@ fn saved_into(
 }
 
 // Saves so many cells of the long run, in blocks of two, where so many bytes are lent.
-fn long_saved(rt: &impl Print, count: usize, room: usize) -> Result<()>
+fn long_saved(rt: &impl Print, count: usize, room: usize) -> io::Result<()>
     requires { (count ≤ 13106) × (room ≤ 65538) }
 {
     let cells = long_run();
@@ -155,128 +151,79 @@ fn long_room() -> [u8; 65538]
 }
 
 // Saves cells of the long run in these bytes, and fetches the last of the trace's 6,551 blocks.
-fn long_saved_into(rt: &impl Print, cells: &[i64], bytes: &mut [u8]) -> Result<()> {
+fn long_saved_into(rt: &impl Print, cells: &[i64], bytes: &mut [u8]) -> io::Result<()> {
     print_asked(rt, 8000, 1, bytes.len())?;
-    print_unsigned(rt, cells.len())?;
-    print_text(rt, b" cells")?;
-    let used = answered(rt, 8000, 1, cells, bytes)?;
-    print_kept(rt, bytes, used)?;
-    if 0 < used {
+    let count = cells.len();
+    print!(rt; " {count} cells")?;
+    if let Some(used) = answered(rt, 8000, 1, cells, bytes)? {
         fetched(rt, &bytes[..used], 6550, 1)?;
     }
     Ok(())
 }
 
 // Rate, P and the number of lent bytes. The cells follow.
-fn print_asked(rt: &impl Print, rate: usize, p: usize, room: usize) -> Result<()> {
-    print_text(rt, b"save rate")?;
-    print_unsigned(rt, rate)?;
-    print_text(rt, b", P")?;
-    print_unsigned(rt, p)?;
-    print_text(rt, b" into")?;
-    print_unsigned(rt, room)?;
-    print_text(rt, b" bytes,")
+fn print_asked(rt: &impl Print, rate: usize, p: usize, room: usize) -> io::Result<()> {
+    print!(rt; "save rate {rate}, P {p} into {room} bytes,")
 }
 
-// Prints what save answers, and answers how many of the lent bytes are used: none where it refuses. Where nothing can be printed, too, the bytes are as
-// save leaves them.
+// Prints what save answers and how many of the other lent bytes are kept, and answers how many bytes are used where it saves. Where nothing can be printed,
+// too, the bytes are as save leaves them.
 fn answered(
     rt: &impl Print,
     rate: usize,
     p: usize,
     cells: &[i64],
     bytes: &mut [u8],
-) -> Result<usize>
-    ensures used { IfOk result (λ used. used ≤ length bytes.new) }
+) -> io::Result<Option<usize>>
+    ensures used { IfOk result (λ saved. IfSome saved (λ used. used ≤ length bytes.new)) }
     ensures bytes { bytes.new ≡ trace_left bytes.old (saving (as_head rate p) cells.now (length bytes.old)) }
 {
-    let answer = saving::save(rate, p, cells, bytes);
-    print_answer(rt, answer)?;
-    match answer {
-        SaveAnswer::Saved(used) => Ok(used),
-        SaveAnswer::Refused(_) => Ok(0),
-    }
-}
-
-// The number of bytes used, or the refusal.
-fn print_answer(rt: &impl Print, answer: SaveAnswer) -> Result<()> {
-    print_text(rt, b":")?;
-    match answer {
-        SaveAnswer::Saved(used) => {
-            print_unsigned(rt, used)?;
-            print_text(rt, b" used")
+    match saving::save(rate, p, cells, bytes) {
+        Ok(used) => {
+            print!(rt; ": {used} used")?;
+            print_kept(rt, &bytes[used..])?;
+            Ok(Some(used))
         }
-        SaveAnswer::Refused(refusal) => print_refusal(rt, refusal),
-    }
-}
-
-// How many of the lent bytes are kept from a place on.
-fn print_kept(rt: &impl Print, bytes: &[u8], start: usize) -> Result<()> {
-    print_text(rt, b",")?;
-    print_unsigned(rt, kept(bytes, start))?;
-    print_text(rt, b" kept")?;
-    print_line_end(rt)
-}
-
-// How many bytes from a place on hold what every lent byte held, up to the first that does not.
-fn kept(bytes: &[u8], start: usize) -> usize {
-    let mut i = start;
-    while i < bytes.len() {
-        if bytes[i] != LENT {
-            return i - start;
+        Err(refusal) => {
+            print!(rt; ": {refusal}")?;
+            print_kept(rt, bytes)?;
+            Ok(None)
         }
-        i += 1;
     }
-    i - start
+}
+
+// How many of these lent bytes are kept: they hold what every lent byte held, up to the first that does not.
+fn print_kept(rt: &impl Print, bytes: &[u8]) -> io::Result<()> {
+    let kept = bytes.iter().take_while(|byte| **byte == LENT).count();
+    println!(rt; ", {kept} kept")
 }
 
 // The bytes of a saved trace.
-fn print_bytes(rt: &impl Print, bytes: &[u8]) -> Result<()> {
-    print_text(rt, b"saved bytes")?;
-    let mut i = 0;
-    while i < bytes.len() {
-        print_byte(rt, bytes[i])?;
-        i += 1;
+fn print_bytes(rt: &impl Print, bytes: &[u8]) -> io::Result<()> {
+    print!(rt; "saved bytes")?;
+    for byte in bytes {
+        print!(rt; " {byte:02X}")?;
     }
-    print_line_end(rt)
-}
-
-// A space and the two digits of a byte.
-fn print_byte(rt: &impl Print, byte: u8) -> Result<()> {
-    print_text(rt, &[b' ', digit(byte / 16), digit(byte % 16)])
-}
-
-// The hex digit of a number below 16.
-fn digit(d: u8) -> u8
-    requires { d < 16 }
-{
-    if d < 10 { b'0' + d } else { b'A' + (d - 10) }
+    println!(rt)
 }
 
 // What check answers to a saved trace, and what fetch answers for each of its blocks.
-fn read_back(rt: &impl Print, trace: &[u8]) -> Result<()> {
+fn read_back(rt: &impl Print, trace: &[u8]) -> io::Result<()> {
     let answer = trace::check(trace);
-    print_text(rt, b"saved trace:")?;
-    print_trace_answer(rt, answer)?;
-    print_line_end(rt)?;
-    if let TraceAnswer::Accepted { head, blocks } = answer {
-        read_blocks(rt, trace, head.p, blocks)?;
-    }
-    Ok(())
-}
-
-// What fetch answers for each of so many blocks.
-fn read_blocks(rt: &impl Print, trace: &[u8], p: usize, blocks: usize) -> Result<()> {
-    let mut k = 0;
-    while k < blocks {
-        fetched(rt, trace, k, p)?;
-        k += 1;
+    println!(rt;
+        "saved trace:{}",
+        Answer(answer.map(|summary| Said(summary)))
+    )?;
+    if let Ok(summary) = answer {
+        for k in 0..summary.blocks {
+            fetched(rt, trace, k, summary.head.p)?;
+        }
     }
     Ok(())
 }
 
 // What fetch answers for block k, which has two cells or four. The lent cells hold 7.
-fn fetched(rt: &impl Print, trace: &[u8], k: usize, p: usize) -> Result<()> {
+fn fetched(rt: &impl Print, trace: &[u8], k: usize, p: usize) -> io::Result<()> {
     if p == 1 {
         fetched_into(rt, trace, k, &mut [7, 7])
     } else {
@@ -285,23 +232,11 @@ fn fetched(rt: &impl Print, trace: &[u8], k: usize, p: usize) -> Result<()> {
 }
 
 // What fetch answers for block k and these cells, and the cells that it leaves.
-fn fetched_into(rt: &impl Print, trace: &[u8], k: usize, cells: &mut [i64]) -> Result<()> {
-    print_text(rt, b"saved trace, block")?;
-    print_unsigned(rt, k)?;
-    print_text(rt, b":")?;
-    print_trace_answer(rt, trace::fetch(trace, k, cells))?;
-    print_cells(rt, b", cells", cells)?;
-    print_line_end(rt)
-}
-
-// Rate, P and the number of blocks, or the refusal.
-fn print_trace_answer(rt: &impl Print, answer: TraceAnswer) -> Result<()> {
-    match answer {
-        TraceAnswer::Accepted { head, blocks } => {
-            print_unsigned(rt, head.rate)?;
-            print_unsigned(rt, head.p)?;
-            print_unsigned(rt, blocks)
-        }
-        TraceAnswer::Refused(refusal) => print_refusal(rt, refusal),
-    }
+fn fetched_into(rt: &impl Print, trace: &[u8], k: usize, cells: &mut [i64]) -> io::Result<()> {
+    let answer = trace::fetch(trace, k, cells).map(|summary| Said(summary));
+    println!(rt;
+        "saved trace, block {k}:{}, cells{}",
+        Answer(answer),
+        Cells(cells)
+    )
 }

@@ -2,10 +2,9 @@
 #![tactic(auto)]
 
 use kind::Line;
-use printing::{
-    print_cells, print_line_end, print_refusal, print_signed, print_text, print_unsigned,
-};
-use search::SearchAnswer;
+use printing::{Answer, Cells};
+use std::fmt;
+use std::fmt::{Display, Formatter};
 use std::io::Result;
 
 fn main(rt: HostRuntime) -> Result<()> {
@@ -86,34 +85,33 @@ fn ends(rt: &impl Print) -> Result<()> {
 
 // The strongest line from low to high.
 fn strongest_of(rt: &impl Print, powers: &[i64], low: usize, high: usize) -> Result<()> {
-    print_text(rt, b"strongest from")?;
-    print_unsigned(rt, low)?;
-    print_text(rt, b" to")?;
-    print_unsigned(rt, high)?;
-    print_cells(rt, b" of", powers)?;
-    print_answer(rt, search::strongest(powers, Line(low), Line(high)))
+    let answer = search::strongest(powers, Line(low), Line(high)).map(|line| Found(Some(line)));
+    println!(rt;
+        "strongest from {low} to {high} of{}:{}",
+        Cells(powers),
+        Answer(answer)
+    )
 }
 
 // The line nearest to the chosen one that reaches the level.
 fn nearest_of(rt: &impl Print, powers: &[i64], chosen: usize, level: i64) -> Result<()> {
-    print_text(rt, b"nearest to")?;
-    print_unsigned(rt, chosen)?;
-    print_text(rt, b" from")?;
-    print_signed(rt, level)?;
-    print_cells(rt, b" on, of", powers)?;
-    print_answer(rt, search::nearest(powers, Line(chosen), level))
+    let answer = search::nearest(powers, Line(chosen), level).map(Found);
+    println!(rt;
+        "nearest to {chosen} from {level} on, of{}:{}",
+        Cells(powers),
+        Answer(answer)
+    )
 }
 
-// What a search answers, after a colon.
-fn print_answer(rt: &impl Print, answer: SearchAnswer) -> Result<()> {
-    print_text(rt, b":")?;
-    match answer {
-        SearchAnswer::Found(line) => {
-            print_text(rt, b" line")?;
-            print_unsigned(rt, line.0)?;
+// What a search finds, as text.
+#[derive(Clone, Copy)]
+struct Found(Option<Line>);
+
+impl Display for Found {
+    fn fmt<W: fmt::Write>(&self, f: &mut Formatter<W>) -> fmt::Result {
+        match self.0 {
+            Some(line) => write!(f, "line {}", line.0),
+            None => write!(f, "none"),
         }
-        SearchAnswer::None => print_text(rt, b" none")?,
-        SearchAnswer::Refused(refusal) => print_refusal(rt, refusal)?,
     }
-    print_line_end(rt)
 }

@@ -7,4 +7,4 @@ use Rattle.block.proofs.tested_samples.Goals as goal
 
 pub returns : goal.returns
 unfolding equal
-returns c = let r = both_ways _ _ _ _ (by_limits LEAST_SAMPLE LARGEST_SAMPLE _ _ _ _ c.tested.ensures tt tt) in record { answer = r.0; numbers = r.1 }
+returns c = both_ways _ _ _ _ (by_limits LEAST_SAMPLE LARGEST_SAMPLE _ _ _ _ c.tested.ensures tt tt)

@@ -8,4 +8,4 @@ use Rattle.block.proofs.tested_spectrum.Goals as goal
 
 pub returns : goal.returns
 unfolding equal
-returns c = let r = both_ways _ _ _ _ (by_limits (neg_ℤ (pos LOUDEST_LINE)) (pos LOUDEST_LINE) _ _ _ _ c.tested.ensures tt tt) in record { answer = r.0; numbers = r.1 }
+returns c = both_ways _ _ _ _ (by_limits (neg_ℤ (pos LOUDEST_LINE)) (pos LOUDEST_LINE) _ _ _ _ c.tested.ensures tt tt)

@@ -24,9 +24,6 @@ module _ (bytes : List ℕ) (i start end : ℕ) (es : start ≡ 8 * i) (ee : end
       many : end - start ≡ 8
       many = omega arith
 
-pub unsigned_64-requires : goal.unsigned_64-requires
-unsigned_64-requires c = let i = c.args.i in length_between 0 8 (8 * i) (8 * i + 8) _ refl (omega arith)
-
 pub returns : goal.returns
 returns c = let i = c.args.i in let r = c.signed_of_word.result in
     let back : to_z w64 (of_z w64 r) ≡ r = to_z-of_z {w = w64} (sfits_of c.signed_of_word.type_inv) in

@@ -1,18 +1,11 @@
 -- `decode` is right because the front of the bytes is as long as its cells take, and spells them as all the bytes do.
 use mathlib.Core.Path.{refl, sym, ◌∙◌}
 use native.Mathlib.Omega.{arith}
-use lib.Seq.{length-take-le}
 use Rattle.cell_bytes.proofs.CellsRead.{decoded_none, front_decoded}
 use Rattle.cell_bytes.proofs.decode.Goals as goal
 
 pub returns-then-bytes-cells : goal.returns-then-bytes-cells
 returns-then-bytes-cells c = sym (decoded_none _ _ (omega arith))
-
-pub slice_bounds-decode_all-end : goal.slice_bounds-decode_all-end
-slice_bounds-decode_all-end c = sym (length-take-le _ _ (omega arith))
-
-pub decode_all-requires : goal.decode_all-requires
-decode_all-requires c = length-take-le _ _ (omega arith)
 
 pub returns : goal.returns
 returns c = let a = c.args in c.decode_all.ensures ∙ front_decoded a.bytes.now a.cells.now _ refl (omega arith)

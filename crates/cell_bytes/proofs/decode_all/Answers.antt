@@ -1,6 +1,6 @@
 -- `decode_all` is right because cell i takes what the eight bytes from byte 8 i on spell.
 use borrow.Author.Rules.{sfits_of}
-use mathlib.Core.Path.{◌≡◌, refl, ◌∙◌}
+use mathlib.Core.Path.{◌≡◌, ◌∙◌}
 use mathlib.Core.List.{List}
 use Prim.Native.Nat.{ℕ}
 use native.Mathlib.Omega.{arith}
@@ -17,9 +17,6 @@ use Rattle.cell_bytes.proofs.decode_all.Goals as goal
 
 all : (bytes : List ℕ) (xs : List ℤ) (i n : ℕ) → i ≡ n → length xs ≡ n → Filled (pos 0) (cell_at bytes) i xs → xs ≡ signeds 8 n bytes
 all bytes xs i n ei e F = filled_all (pos 0) (cell_at bytes) xs n e (λ k h. F k (omega arith)) ∙ signeds_tabulated 8 n bytes
-
-pub loop-i-init : goal.loop-i-init
-loop-i-init c = (omega arith, refl, λ i h. absurd (omega arith))
 
 pub loop-i-preserved : goal.loop-i-preserved
 loop-i-preserved c = let l = c.loop-i in let bytes = c.args.bytes.now in let r = c.cell_at.result in

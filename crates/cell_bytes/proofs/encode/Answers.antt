@@ -4,21 +4,12 @@ use mathlib.Core.Path.{◌≡◌, sym, ◌∙◌, ap}
 use Prim.Native.Nat.{◌+◌, ◌*◌}
 use native.Mathlib.Omega.{arith}
 use Rattle.little_endian.specs.Spelling.{spelled_signed}
-use Rattle.little_endian.proofs.Numbers.{numbers_begun, numbers_room, numbers_next, numbers_over, one_spelled}
+use Rattle.little_endian.proofs.Numbers.{numbers_next, numbers_over, one_spelled}
 use Rattle.cell_bytes.proofs.CellsRead.{encoded_all, encoded_none}
 use Rattle.cell_bytes.proofs.encode.Goals as goal
 
 pub returns-then-bytes-cells : goal.returns-then-bytes-cells
 returns-then-bytes-cells c = sym (encoded_none _ _ (λ e. omega arith))
-
-pub loop-i-init : goal.loop-i-init
-loop-i-init c = numbers_begun (omega arith) (omega arith) (omega arith)
-
-pub overflow_mul-i : goal.overflow_mul-i
-overflow_mul-i c = omega (arith, c.loop-i.invariant.kept)
-
-pub put_cell-requires : goal.put_cell-requires
-put_cell-requires c = numbers_room c.loop-i.invariant 1 (omega arith)
 
 pub loop-i-preserved : goal.loop-i-preserved
 loop-i-preserved c = let end : c.put_cell.result ≡ 8 * (c.loop-i.i + 1) = omega arith in

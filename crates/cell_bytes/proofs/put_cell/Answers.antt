@@ -14,4 +14,4 @@ unfolding spelled_signed
 put_word x word e p = rw e at p
 
 pub returns : goal.returns
-returns c = (put_word _ _ (c.word_of_signed.ensures ∙ ap (word_of_signed (256 ^ 8)) (to_z-of_z c.ranges.x)) c.put_64.ensures.0, omega arith)
+returns c = (put_word _ _ (c.word_of_signed.ensures ∙ ap (word_of_signed (256 ^ 8)) (to_z-of_z c.ranges.x)) c.put.ensures.0, omega arith)

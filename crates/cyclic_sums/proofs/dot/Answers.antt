@@ -65,9 +65,6 @@ module _ {xs ys : List ℤ} (few : length xs ≤ SHORT) (s : Short xs ys) {z : �
 pub loop-i-init : goal.loop-i-init
 loop-i-init c = added_none
 
-pub bounds-factors-i : goal.bounds-factors-i
-bounds-factors-i c = omega (arith, c.requires.1.as_long)
-
 pub overflow_mul-sum : goal.overflow_mul-sum
 overflow_mul-sum c = let p = c.requires in product_fits p.0 p.1 c.loop-i.invariant (omega arith)
 

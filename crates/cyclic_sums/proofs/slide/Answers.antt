@@ -1,10 +1,10 @@
 -- `slide` is right because the sum at moment t is the dot product of the samples and of as many turned weights, from place n − 1 − t on.
-use mathlib.Core.Path.{◌≡◌, refl, ◌∙◌, ap}
+use mathlib.Core.Path.{◌≡◌, ◌∙◌, ap}
 use mathlib.Core.List.{List}
 use Prim.Native.Nat.{ℕ, ◌+◌, ◌-◌, ◌^◌, ◌≤◌}
 use native.Mathlib.Omega.{arith}
 use lib.IntN.{ℤ, pos}
-use lib.ListN.{length, take, drop, length-set}
+use lib.ListN.{length, take, drop}
 use mir.Syntax.{w64}
 use mir.Val.{to_z, of_z}
 use Rattle.ints.proofs.Filling.{Filled, filled_next, filled_all}
@@ -37,7 +37,7 @@ module _ {xs ts : List ℤ} (few : length xs ≤ SHORT) (s : Sliding xs ts) (t :
 -- ---- the needs
 
 pub loop-t-init : goal.loop-t-init
-loop-t-init c = (refl, λ i h. absurd (omega arith))
+loop-t-init c = λ i h. absurd (omega arith)
 
 pub overflow_add-start : goal.overflow_add-start
 overflow_add-start c = omega (arith, c.requires.0)
@@ -48,15 +48,9 @@ slice_bounds-dot-end c = omega (arith, c.requires.1.twice)
 pub dot-requires : goal.dot-requires
 dot-requires c = lent-short c.requires.0 c.requires.1 c.loop-t.t
 
-pub bounds-sums-t : goal.bounds-sums-t
-bounds-sums-t c = omega (arith, c.loop-t.invariant.0, c.requires.2)
-
 pub loop-t-preserved : goal.loop-t-preserved
-loop-t-preserved c = (
-  length-set c.loop-t.sums c.loop-t.t _ ∙ c.loop-t.invariant.0,
-  filled_next (pos 0) (slid_sum c.args.samples.now c.args.turned.now) c.loop-t.sums c.loop-t.t _ (omega (arith, c.loop-t.invariant.0, c.requires.2))
-      (result-is c.requires.0 c.requires.1 c.loop-t.t c.dot.result c.dot.ensures) c.loop-t.invariant.1,
-)
+loop-t-preserved c = filled_next (pos 0) (slid_sum c.args.samples.now c.args.turned.now) c.loop-t.sums c.loop-t.t _ (omega arith)
+    (result-is c.requires.0 c.requires.1 c.loop-t.t c.dot.result c.dot.ensures) c.loop-t.invariant
 
 pub returns : goal.returns
-returns c = all _ _ c.loop-t.sums c.loop-t.t (c.loop-t.invariant.0 ∙ c.requires.2) (omega arith) c.loop-t.invariant.1
+returns c = all _ _ c.loop-t.sums c.loop-t.t (c.loop-t.auto.sums ∙ c.requires.2) (omega (arith, c.requires.2)) c.loop-t.invariant

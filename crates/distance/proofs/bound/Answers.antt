@@ -1,13 +1,36 @@
 -- `bound` is right because a length that no block has is refused first, and then the answer goes by what was heard of the cells.
-use mathlib.Core.Path.{refl, sym, ◌∙◌}
-use Rattle.distance.proofs.Answered.{answered-can, answered-heard, answered_none, answered_numbers}
+use mathlib.Core.Path.{◌≡◌, sym, ◌∙◌, ap}
+use Rattle.std.specs.Prelude.{Ok, Err}
+use Rattle.std.proofs.lemmas.Result.{err_from_is_err_and}
+use Rattle.refusal.specs.declared.Refusal.TheVariants.{Length}
+use Rattle.distance.proofs.Answered.{answered-quiet, answered_loud, answered_none, answered_numbers}
 use Rattle.distance.proofs.bound.Goals as goal
 
-pub answer-requires : goal.answer-requires
-answer-requires c = answered-can c.args.cells.now refl _ (sym c.of_len.ensures.answer ∙ c.in-Found.is) c.listen-heard.ensures
+pub returns-in_err-kind : goal.returns-in_err-kind
+returns-in_err-kind g c =
+    let xs = g.C.Cells.list c.args.cells in
+    let p = err_from_is_err_and c.from_residual.result c.from_residual.ensures.1 in
+    let none = c.in_err-kind.ensures.ok_part in
+    let told = rw none at c.in_err-kind.ensures.value in
+    let same : c.in_err-kind.field-0.0 ≡ Length = cc in
+    let r = answered_numbers xs (p.1 ∙ ap Err (p.2 ∙ same) ∙ answered_none xs c.len.ensures (sym c.of_len.ensures.answer ∙ none)) in
+    record { answer = r.0; numbers = r.1 }
 
-pub returns-in-None : goal.returns-in-None
-returns-in-None c = let xs = c.args.cells.now in let r = answered_numbers xs (answered_none xs refl (sym c.of_len.ensures.answer ∙ c.in-None.is)) in record { answer = r.0; numbers = r.1 }
+pub returns-in_err-largest : goal.returns-in_err-largest
+returns-in_err-largest g c =
+    let xs = g.C.Cells.list c.args.cells in
+    let p = err_from_is_err_and c.from_residual-in_err-largest.result c.from_residual-in_err-largest.ensures.1 in
+    let found = sym c.of_len.ensures.answer ∙ c.in_ok-kind.ensures.ok_part in
+    let r = answered_numbers xs (p.1 ∙ ap Err p.2 ∙ answered_loud xs c.len.ensures _ found _ c.listen.ensures c.in_err-largest.was) in
+    record { answer = r.0; numbers = r.1 }
 
-pub returns-in-Found : goal.returns-in-Found
-returns-in-Found c = let xs = c.args.cells.now in let r = answered_numbers xs (c.answer.ensures ∙ answered-heard xs refl _ (sym c.of_len.ensures.answer ∙ c.in-Found.is) c.listen-heard.ensures) in record { answer = r.0; numbers = r.1 }
+pub bound_for-requires : goal.bound_for-requires
+bound_for-requires g c = let found = sym c.of_len.ensures.answer ∙ c.in_ok-kind.ensures.ok_part in
+    (answered-quiet (g.C.Cells.list c.args.cells) c.len.ensures _ found _ c.listen.ensures c.in_ok-largest.was).0
+
+pub returns : goal.returns
+returns g c =
+    let xs = g.C.Cells.list c.args.cells in
+    let found = sym c.of_len.ensures.answer ∙ c.in_ok-kind.ensures.ok_part in
+    let r = answered_numbers xs (ap Ok c.bound_for.ensures ∙ (answered-quiet xs c.len.ensures _ found _ c.listen.ensures c.in_ok-largest.was).1) in
+    record { answer = r.0; numbers = r.1 }

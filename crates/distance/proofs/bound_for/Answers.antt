@@ -1,64 +1,48 @@
 -- `bound_for` is right because each round makes the bound of so many levels that of one more, and the first two levels have bound 0.
-use mathlib.Core.Path.{◌≡◌, refl, sym, ◌∙◌, ap}
-use mathlib.Core.Logic.{inl, inr}
-use Prim.Native.Nat.{ℕ, suc, ◌+◌, ◌*◌, ◌^◌, ◌≤◌, ◌<◌}
+use mathlib.Core.Path.{◌≡◌, sym, ◌∙◌, ap}
+use Prim.Native.Nat.{ℕ, suc, ◌+◌, ◌*◌, ◌%◌, ◌^◌, ◌≤◌, ◌<◌, min}
 use native.Mathlib.Nat.{le_trans, mul-le-mul, mul-le-mul_right}
 use native.Mathlib.Omega.{arith}
 use lib.Pow.{pow_mono}
-use Rattle.ints.proofs.Powers.{two_pow}
-use Rattle.spectrum.specs.Distance.{ceiling}
+use Rattle.spectrum.specs.Distance.{bound, ceiling}
 use Rattle.spectrum.proofs.Bound.{bound_early, bound_next, bound-size}
 use Rattle.distance.specs.Inner.{CanBound, CanStep}
-use Rattle.distance.proofs.bound_for.Invariants.{Reached, done}
 use Rattle.distance.proofs.bound_for.Goals as goal
 
-begun : (q M P : ℕ) {B half level : ℕ} → B ≡ 0 → half ≡ 4 → level ≡ 2 → Reached q M P B half level
-begun q M P e f g = record { least = omega arith; most = inl g; halved = rw (f, g) refl; is = rw g (e ∙ sym (bound_early q M 2 (omega arith))) }
+-- one level more, where there is one: half the length of its parts is 2^level, and the numbers that it takes are small
+module _ {P level : ℕ} (most : P ≤ 10) (more : level < P) where
+  few : 2 ^ level ≤ 2 ^ 9
+  few = pow_mono {j = 9} (omega arith)
 
--- one level more, where there is one; the numbers that it takes are small
-module _ (q M P : ℕ) {B half level : ℕ} (r : Reached q M P B half level) (h : level < P) where
-  next : {B' half' level' : ℕ} → B' ≡ ceiling (5 * B) 2 + ceiling (half * M) q + 1 → half' ≡ 2 * half → level' ≡ suc level → Reached q M P B' half' level'
-  next e f g = rw g (record {
-    least = omega (arith, r.least);
-    most = inr h;
-    halved = f ∙ ap (λ (n : ℕ). 2 * n) r.halved ∙ sym (two_pow level);
-    is = e ∙ rw (r.is, r.halved) (sym (bound_next q M level r.least));
-  })
+  half-is : 1 * 2 ^ level % 2 ^ 64 ≡ 2 ^ level
+  half-is = omega (arith, few)
 
-  few : P ≤ 10 → 2 ^ level ≤ 2 ^ 9
-  few most = pow_mono {j = 9} (omega arith)
+  so_many : min level P ≡ level
+  so_many = omega arith
 
-  can_double : P ≤ 10 → half ≤ 2 ^ 9
-  can_double most = rw r.halved (few most)
-
-  small : 0 < q → P ≤ 10 → B ≤ 2 ^ 9 * 2 ^ 9 * (M + 1)
-  small some most = rw r.is (le_trans (bound-size q some M level) (mul-le-mul_right (M + 1) (mul-le-mul (few most) (few most))))
-
-  can-step : CanBound q M P → CanStep q (half * M) B
-  can-step c = record {
+module _ (q M : ℕ) {P level : ℕ} (most : P ≤ 10) (more : level < P) where
+  can-step : CanBound q M P → {B : ℕ} → B ≡ bound q M (min level P) → CanStep q (1 * 2 ^ level % 2 ^ 64 * M) B
+  can-step c {B} e = record {
     some = c.some;
     scale = c.scale;
-    products = omega (arith, mul-le-mul_right M (can_double c.most), c.quiet);
-    bounds = omega (arith, small c.some c.most, c.quiet);
+    products = rw (half-is most more) (omega (arith, mul-le-mul_right M (few most more), c.quiet));
+    bounds = omega (arith, small, c.quiet);
   }
+    where
+      small : B ≤ 2 ^ 9 * 2 ^ 9 * (M + 1)
+      small = rw (e, so_many most more) (le_trans (bound-size q c.some M level) (mul-le-mul_right (M + 1) (mul-le-mul (few most more) (few most more))))
+
+  next : 2 ≤ level → {B after : ℕ} → B ≡ bound q M (min level P) → after ≡ ceiling (5 * B) 2 + ceiling (1 * 2 ^ level % 2 ^ 64 * M) q + 1 → after ≡ bound q M (min (level + 1) P)
+  next least e f = let one-more : min (level + 1) P ≡ suc level = omega arith in f ∙ rw (e, so_many most more, half-is most more, one-more) (sym (bound_next q M level least))
 
 pub loop-level-init : goal.loop-level-init
-loop-level-init c = begun _ _ _ (omega arith) (omega arith) (omega arith)
-
-pub overflow_mul-half : goal.overflow_mul-half
-overflow_mul-half c = omega (arith, (can-step _ _ _ c.loop-level.invariant (omega arith) c.requires).products)
+loop-level-init c = sym (bound_early _ _ _ (omega arith))
 
 pub next_bound-so_far-requires : goal.next_bound-so_far-requires
-next_bound-so_far-requires c = can-step _ _ _ c.loop-level.invariant (omega arith) c.requires
-
-pub overflow_mul-half-in-loop-level : goal.overflow_mul-half-in-loop-level
-overflow_mul-half-in-loop-level c = omega (arith, can_double _ _ _ c.loop-level.invariant (omega arith) c.requires.most)
-
-pub overflow_add-level : goal.overflow_add-level
-overflow_add-level c = omega (arith, c.requires.most)
+next_bound-so_far-requires c = can-step _ _ c.requires.most (omega arith) c.requires c.loop-level.invariant
 
 pub loop-level-preserved : goal.loop-level-preserved
-loop-level-preserved c = next _ _ _ c.loop-level.invariant (omega arith) c.next_bound-so_far.ensures (omega arith) (omega arith)
+loop-level-preserved c = next _ _ c.requires.most (omega arith) c.loop-level.auto.level c.loop-level.invariant c.next_bound-so_far.ensures
 
 pub returns : goal.returns
-returns c = done _ _ _ c.loop-level.invariant (omega arith)
+returns c = let all : min c.loop-level.level c.args.p ≡ c.args.p = omega arith in c.loop-level.invariant ∙ ap (bound c.args.scale c.args.largest) all

@@ -1,5 +1,4 @@
 -- `join_fours` is right because each round does levels 1 and 2 of one more four, from the front on, and leaves all others as they are.
-use borrow.Author.Rules.{rules}
 use mathlib.Core.Path.{◌≡◌, refl, sym, ◌∙◌, ap}
 use mathlib.Core.List.{List}
 use Prim.Native.Nat.{ℕ, ◌+◌, ◌*◌, ◌-◌, ◌/◌, ◌≤◌, ◌<◌}
@@ -12,10 +11,13 @@ use Rattle.spectrum.proofs.Stages.{levels-within}
 use Rattle.turns.specs.Turn.{CHOSEN, cosine_at, sine_at}
 use Rattle.exact_pair.specs.Pair.{FIRST, Stands}
 use Rattle.exact_levels.specs.Ready.{FourReady}
-use Rattle.levels.proofs.PartByPart.{part_inside}
+use Rattle.levels.proofs.PartByPart.{part_inside, parts_all}
 use Rattle.exact_levels.proofs.PartByPart.{none_done, part_long, part_cell, part_small, done_next, all_done}
 use Rattle.exact_levels.proofs.join_fours.Invariants.{lines, FoursDone}
 use Rattle.exact_levels.proofs.join_fours.Goals as goal
+
+one_more : (m : ℕ) → (m + 1) * 4 ≡ m * 4 + 4
+one_more m = omega arith
 
 -- ---- fours with levels 1 and 2 behind them, from the front on
 
@@ -40,43 +42,19 @@ module _ {xs : List ℤ} (R : FourReady xs) {base : ℕ} {ys : List ℤ} (D : Fo
   four-done : (zs : List ℤ) → Stands (4 * FIRST) 4 (lines four) zs → FoursDone xs end (put_mid base (end - base) ys zs)
   four-done zs Z = done_next (4 * FIRST) 4 (lines xs) D end ends room (lines four) zs Z within
 
-pub loop-base-init : goal.loop-base-init
-loop-base-init c = let xs = c.args.cells.now in none_done (4 * FIRST) 4 (lines xs) xs
-
-pub overflow_add-end : goal.overflow_add-end
-overflow_add-end c =
-    let inside : c.loop-base.base + 4 ≤ length c.args.cells.now = let l = c.loop-base in part_inside 4 l.base (length c.args.cells.now) l.invariant.whole c.requires.whole (omega (arith, c.loop-base-test.true, l.invariant.long)) in
-    let e = c.loop-base.invariant.long in search rules
-
-pub offset_bounds-cells-base : goal.offset_bounds-cells-base
-offset_bounds-cells-base c =
-    let inside : c.loop-base.base + 4 ≤ length c.args.cells.now = let l = c.loop-base in part_inside 4 l.base (length c.args.cells.now) l.invariant.whole c.requires.whole (omega (arith, c.loop-base-test.true, l.invariant.long)) in
-    let e = c.loop-base.invariant.long in search rules
-
-pub slice_bounds-join_four-start : goal.slice_bounds-join_four-start
-slice_bounds-join_four-start c =
-    let inside : c.loop-base.base + 4 ≤ length c.args.cells.now = let l = c.loop-base in part_inside 4 l.base (length c.args.cells.now) l.invariant.whole c.requires.whole (omega (arith, c.loop-base-test.true, l.invariant.long)) in
-    let h = inside in omega (arith, h, c.loop-base.invariant.long)
-
-pub slice_bounds-join_four-end : goal.slice_bounds-join_four-end
-slice_bounds-join_four-end c =
-    let inside : c.loop-base.base + 4 ≤ length c.args.cells.now = let l = c.loop-base in part_inside 4 l.base (length c.args.cells.now) l.invariant.whole c.requires.whole (omega (arith, c.loop-base-test.true, l.invariant.long)) in
-    let h = inside in omega (arith, h, c.loop-base.invariant.long)
+pub loop-four-init : goal.loop-four-init
+loop-four-init c = let xs = c.args.cells.now in none_done (4 * FIRST) 4 (lines xs) xs
 
 pub join_four-requires : goal.join_four-requires
 join_four-requires c =
-    let inside : c.loop-base.base + 4 ≤ length c.args.cells.now = let l = c.loop-base in part_inside 4 l.base (length c.args.cells.now) l.invariant.whole c.requires.whole (omega (arith, c.loop-base-test.true, l.invariant.long)) in
-    let l = c.loop-base in let R = c.requires in (long R l.invariant (l.base + 4) refl inside, next_ready R l.invariant (l.base + 4) refl inside)
+    let inside : c.loop-four.four * 4 + 4 ≤ length c.args.cells.now = part_inside 4 c.loop-four.four (length c.args.cells.now) c.loop-four-test.true in
+    let l = c.loop-four in let R = c.requires in (long R l.invariant (l.four * 4 + 4) refl inside, next_ready R l.invariant (l.four * 4 + 4) refl inside)
 
-pub loop-base-smaller : goal.loop-base-smaller
-loop-base-smaller c =
-    let inside : c.loop-base.base + 4 ≤ length c.args.cells.now = let l = c.loop-base in part_inside 4 l.base (length c.args.cells.now) l.invariant.whole c.requires.whole (omega (arith, c.loop-base-test.true, l.invariant.long)) in
-    let h = inside in omega (arith, h)
-
-pub loop-base-preserved : goal.loop-base-preserved
-loop-base-preserved c =
-    let inside : c.loop-base.base + 4 ≤ length c.args.cells.now = let l = c.loop-base in part_inside 4 l.base (length c.args.cells.now) l.invariant.whole c.requires.whole (omega (arith, c.loop-base-test.true, l.invariant.long)) in
-    let l = c.loop-base in four-done c.requires l.invariant (l.base + 4) refl inside _ c.join_four.ensures
+pub loop-four-preserved : goal.loop-four-preserved
+loop-four-preserved c =
+    let inside : c.loop-four.four * 4 + 4 ≤ length c.args.cells.now = part_inside 4 c.loop-four.four (length c.args.cells.now) c.loop-four-test.true in
+    let l = c.loop-four in rw (one_more l.four) (four-done c.requires l.invariant (l.four * 4 + 4) refl inside _ c.join_four.ensures)
 
 pub returns : goal.returns
-returns c = let l = c.loop-base in all_done (4 * FIRST) 4 (lines c.args.cells.now) l.invariant (omega (arith, l.invariant.long, c.loop-base-test.false))
+returns c = let l = c.loop-four in
+    all_done (4 * FIRST) 4 (lines c.args.cells.now) l.invariant (parts_all 4 l.four (length c.args.cells.now) c.requires.whole c.loop-four-test.false)

@@ -1,7 +1,6 @@
 use mathlib.Core.List.{List}
-use Prim.Native.Nat.{ℕ, ◌*◌, ◌-◌}
+use Prim.Native.Nat.{ℕ, ◌*◌}
 use lib.IntN.{ℤ}
-use lib.ListN.{length}
 use Rattle.ints.specs.Cells.{cell}
 use Rattle.exact_pair.specs.Pair.{FIRST}
 use Rattle.exact_levels.specs.Ready.{exact_levels}
@@ -14,8 +13,5 @@ lines xs i = cell (exact_levels 2 xs) i
 abbrev pub FoursDone : List ℤ → ℕ → List ℤ → Type 0
 FoursDone xs base ys = Done (4 * FIRST) 4 (lines xs) xs base ys
 
-abbrev pub invariant-loop-base : goal.invariant-loop-base
-invariant-loop-base l = FoursDone l.initial.cells l.base l.cells
-
-abbrev pub decreases-loop-base : goal.decreases-loop-base
-decreases-loop-base l = length l.initial.cells - l.base
+abbrev pub invariant-loop-four : goal.invariant-loop-four
+invariant-loop-four l = FoursDone l.initial.cells (l.four * 4) l.cells

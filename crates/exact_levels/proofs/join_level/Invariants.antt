@@ -1,7 +1,6 @@
 use mathlib.Core.List.{List}
-use Prim.Native.Nat.{ℕ, ◌*◌, ◌-◌}
+use Prim.Native.Nat.{ℕ, ◌*◌}
 use lib.IntN.{ℤ}
-use lib.ListN.{length}
 use Rattle.ints.specs.Cells.{cell}
 use Rattle.exact_pair.specs.Pair.{FIRST}
 use Rattle.exact_levels.specs.Ready.{exact_joined}
@@ -11,8 +10,5 @@ use Rattle.exact_levels.proofs.join_level.Given as goal
 abbrev pub PairsDone : ℕ → List ℤ → ℕ → List ℤ → Type 0
 PairsDone n xs base ys = Done (2 * n * FIRST) (2 * n) (exact_joined n (cell xs)) xs base ys
 
-abbrev pub invariant-loop-base : goal.invariant-loop-base
-invariant-loop-base l = PairsDone l.n l.initial.cells l.base l.cells
-
-abbrev pub decreases-loop-base : goal.decreases-loop-base
-decreases-loop-base l = length l.initial.cells - l.base
+abbrev pub invariant-loop-block : goal.invariant-loop-block
+invariant-loop-block l = PairsDone l.n l.initial.cells (l.block * (2 * l.n)) l.cells

@@ -1,6 +1,5 @@
-use mathlib.Core.Path.{◌≡◌}
 use mathlib.Core.List.{List}
-use Prim.Native.Nat.{ℕ, ◌*◌, ◌-◌, ◌≤◌, ◌<◌}
+use Prim.Native.Nat.{ℕ, ◌*◌}
 use lib.IntN.{ℤ}
 use Rattle.ints.specs.Cells.{cell}
 use Rattle.exact_pair.specs.Pair.{FIRST, exact_line}
@@ -13,7 +12,4 @@ abbrev pub Made : List ℤ → ℕ → ℕ → List ℤ → Type 0
 Made xs n v ys = Joined (Stand (exact_line n (cell xs)) (2 * n * FIRST)) (cell xs) n v ys
 
 abbrev pub invariant-loop-v : goal.invariant-loop-v
-invariant-loop-v l = (0 < l.v) × (2 * l.v ≤ l.n) × (l.entry ≡ l.v * l.stride) × Made l.initial.cells l.n l.v l.cells
-
-abbrev pub decreases-loop-v : goal.decreases-loop-v
-decreases-loop-v l = l.n - l.v
+invariant-loop-v l = Made l.initial.cells l.n l.v l.cells

@@ -1,21 +1,19 @@
--- `fill_by` is right because c and s are cosine and sine of entry j's angle, and that sine is the cosine of the angle of entry last − j.
+-- `fill_by` is right because the angle's are cosine and sine of entry j's angle, and that sine is the cosine of the angle of entry last − j.
 use mathlib.Core.Path.{◌≡◌, sym, ◌∙◌, ap, ap₂}
 use mathlib.Core.List.{List}
 use Prim.Native.Nat.{ℕ, ◌+◌, ◌*◌, ◌-◌, ◌/◌, ◌^◌, ◌≤◌, ◌<◌}
 use native.Mathlib.Nat.{add-mul, mul-div_cancel_left}
 use native.Mathlib.Omega.{arith}
-use borrow.Author.Rules.{sfits_of}
 use lib.IntN.{ℤ, pos, ◌+ℤ◌, ◌-ℤ◌, ◌*ℤ◌}
-use lib.ListN.{length, set, length-set}
+use lib.ListN.{length, set}
 use lib.Pow.{pow_pos, pow-add, pow_mono}
-use mir.Facts.{to_z-of_z}
-use mir.Syntax.{w64}
 use Rattle.ints.specs.Tabulate.{tabulate}
 use Rattle.residues.specs.Residue.{centred, residue}
 use Rattle.exact_pair.specs.Pair.{cosine_step, quarter_of}
 use Rattle.exact_quarter.specs.Stepping.{Fills}
+use Rattle.exact_quarter.proofs.Products.{read, small_back}
 use Rattle.exact_quarter.proofs.Ends.{ends_none, ends_next, ends_all}
-use Rattle.exact_quarter.proofs.Steps.{cosine_none, sine_none, sine-is-cosine, on_turn, step_next}
+use Rattle.exact_quarter.proofs.Steps.{at_small, cosine_none, sine_none, sine-is-cosine, step_next}
 use Rattle.exact_quarter.proofs.fill_by.Invariants.{Reached}
 use Rattle.exact_quarter.proofs.fill_by.Goals as goal
 
@@ -54,14 +52,14 @@ one_further j apart = omega arith
 
 module _ {last : ℕ} {cosine sine : ℤ} {j : ℕ} {c s : ℤ} {xs : List ℤ} (R : Reached last cosine sine j c s xs) where
   reached-next : 2 * j ≤ last → {x y : ℤ} → x ≡ centred (residue (c *ℤ cosine -ℤ s *ℤ sine)) → y ≡ centred (residue (c *ℤ sine +ℤ s *ℤ cosine)) →
-      Reached last cosine sine (j + 1) x y (set (set xs j c) (last - j) s)
-  reached-next h e f = record {
+      Reached last cosine sine (j + 1) x y (set (set xs j (read c)) (last - j) (read s))
+  reached-next h e f = rw (small_back c (at_small R.here).0, small_back s (at_small R.here).1) (record {
     apart = R.apart;
     spans = R.spans;
     between = R.between;
     here = step_next R.here R.between e f _ (one_further j R.apart);
     ends = ends_next _ last j xs c s h R.here.cosine (R.here.sine ∙ sine-is-cosine (j * R.apart) ((last - j) * R.apart) (mirrored last j R.apart R.spans (omega arith))) R.ends;
-  }
+  })
 
   reached-all : last < 2 * j → (t : ℕ) → t ≤ 8 → last ≡ 2 ^ t → xs ≡ quarter_of t
   reached-all h t few e = ends_all _ last j xs h R.ends ∙ ap₂ (λ (n apart : ℕ). tabulate (n + 1) (λ j. cosine_step (j * apart))) e same-apart
@@ -75,28 +73,14 @@ overflow_sub-last c = omega (arith, c.requires.long)
 pub loop-j-init : goal.loop-j-init
 loop-j-init c = (
   omega (arith, c.requires.long, pow_mono {i = c.requires.t} {j = 8} c.requires.most),
-  omega arith,
-  rw (to_z-of_z c.ranges.cosine, to_z-of_z c.ranges.sine) (reached-first c.requires _ (omega (arith, c.requires.long))),
+  reached-first c.requires _ (omega (arith, c.requires.long)),
 )
-
-pub bounds-quarter-j : goal.bounds-quarter-j
-bounds-quarter-j c = omega (arith, c.loop-j.invariant.2.ends.long)
-
-pub bounds-quarter-last : goal.bounds-quarter-last
-bounds-quarter-last c = rw length-set (omega (arith, c.loop-j.invariant.2.ends.long))
-
-pub cosine_of_sum-next-requires : goal.cosine_of_sum-next-requires
-cosine_of_sum-next-requires c = let R = c.loop-j.invariant.2 in on_turn R.here R.between
-
-pub sine_of_sum-s-requires : goal.sine_of_sum-s-requires
-sine_of_sum-s-requires c = let R = c.loop-j.invariant.2 in on_turn R.here R.between
 
 pub loop-j-preserved : goal.loop-j-preserved
-loop-j-preserved c = let l = c.loop-j in (
-  l.invariant.0,
-  omega arith,
-  reached-next l.invariant.2 c.loop-j-test.true (to_z-of_z {w = w64} (sfits_of c.cosine_of_sum-next.type_inv) ∙ c.cosine_of_sum-next.ensures) (to_z-of_z {w = w64} (sfits_of c.sine_of_sum-s.type_inv) ∙ c.sine_of_sum-s.ensures),
-)
+loop-j-preserved c = let l = c.loop-j in (l.invariant.0, reached-next l.invariant.1 (omega (arith, c.loop-j-test.true)) c.plus-angle.ensures.cosine c.plus-angle.ensures.sine)
+
+pub invariant_of-angle : goal.invariant_of-angle
+invariant_of-angle c = record { small = at_small c.loop-j.invariant.1.here }
 
 pub returns : goal.returns
-returns c = λ t few e. reached-all c.loop-j.invariant.2 c.loop-j-test.false t few (omega (arith, e))
+returns c = λ t few e. reached-all c.loop-j.invariant.1 (omega (arith, c.loop-j-test.false)) t few (omega (arith, e))

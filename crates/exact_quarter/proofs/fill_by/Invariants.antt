@@ -1,6 +1,6 @@
 use mathlib.Core.Path.{◌≡◌}
 use mathlib.Core.List.{List}
-use Prim.Native.Nat.{ℕ, ◌+◌, ◌*◌, ◌-◌, ◌≤◌}
+use Prim.Native.Nat.{ℕ, ◌*◌, ◌≤◌}
 use lib.IntN.{ℤ}
 use Rattle.exact_pair.specs.Pair.{cosine_step}
 use Rattle.exact_quarter.proofs.Ends.{Ends}
@@ -15,7 +15,4 @@ pub record Reached (last : ℕ) (cosine sine : ℤ) (j : ℕ) (c s : ℤ) (xs : 
   pub ends : Ends (λ i. cosine_step (i * apart)) last j xs
 
 abbrev pub invariant-loop-j : goal.invariant-loop-j
-invariant-loop-j l = (l.last ≤ 256) × (2 * l.j ≤ l.last + 2) × Reached l.last l.cosine l.sine l.j l.c l.s l.quarter
-
-abbrev pub decreases-loop-j : goal.decreases-loop-j
-decreases-loop-j l = l.last + 2 - 2 * l.j
+invariant-loop-j l = (l.last ≤ 256) × Reached l.last l.step.cosine l.step.sine l.j l.angle.0 l.angle.1.0 l.quarter

@@ -1,53 +1,24 @@
 -- `fill` is right because before line v the lines below v stand, and mirror is the place of H(N − v).
 use borrow.Author.Rules.{sfits_of}
-use Prim.Native.Nat.{◌<◌}
+use mathlib.Core.Path.{refl}
+use Prim.Native.Nat.{◌+◌, ◌<◌}
 use native.Mathlib.Omega.{arith}
 use lib.ListN.{length}
-use Rattle.fourier.proofs.Lines.{line_quiet}
-use Rattle.fourier.proofs.FillingLines.{none_filled, line-in, mirror-within, next-filled, all_filled}
+use Rattle.ints.proofs.Mirror.{mirror_first, mirror_later, mirror_in}
+use Rattle.fourier.proofs.Lines.{two_or_more, line_at, mirror_at}
+use Rattle.fourier.proofs.FillingLines.{none_filled, filled_more, line_written}
 use Rattle.fourier.proofs.fill.Goals as goal
 
 pub loop-v-init : goal.loop-v-init
-loop-v-init c = none_filled c.requires.0.1 (omega arith) (omega arith) c.requires.1
-
-pub offset_bounds-spectrum-v : goal.offset_bounds-spectrum-v
-offset_bounds-spectrum-v c =
-    let line-inside : c.loop-v.v < length c.args.spectrum.now = line-in c.requires.0.1 c.loop-v.invariant (omega arith) in
-    let h = line-inside in record { fits = omega arith }
-
-pub bounds-spectrum-v : goal.bounds-spectrum-v
-bounds-spectrum-v c =
-    let line-inside : c.loop-v.v < length c.args.spectrum.now = line-in c.requires.0.1 c.loop-v.invariant (omega arith) in
-    line-inside
-
-pub offset_bounds-spectrum-mirror : goal.offset_bounds-spectrum-mirror
-offset_bounds-spectrum-mirror c =
-    let mirror-inside : c.loop-v.mirror < length c.args.spectrum.now = mirror-within c.requires.0.1 c.loop-v.invariant (omega arith) in
-    let h = mirror-inside in record { fits = omega arith }
+loop-v-init g c = (none_filled (goal.F-post g c.args.value) c.args.spectrum.now c.args.lines.now, mirror_first (length c.args.spectrum.now) 0 0 refl refl)
 
 pub bounds-spectrum-mirror : goal.bounds-spectrum-mirror
-bounds-spectrum-mirror c =
-    let mirror-inside : c.loop-v.mirror < length c.args.spectrum.now = mirror-within c.requires.0.1 c.loop-v.invariant (omega arith) in
-    omega (arith, mirror-inside)
-
-pub formula-requires : goal.formula-requires
-formula-requires c = let a = c.requires.0.1 in (line_quiet a c.loop-v.v, line_quiet a c.loop-v.mirror)
-
-pub offset_bounds-lines-v : goal.offset_bounds-lines-v
-offset_bounds-lines-v c = record { fits = omega arith }
-
-pub overflow_sub-mirror : goal.overflow_sub-mirror
-overflow_sub-mirror c =
-    let line-inside : c.loop-v.v < length c.args.spectrum.now = line-in c.requires.0.1 c.loop-v.invariant (omega arith) in
-    omega (arith, line-inside)
-
-pub loop-v-smaller : goal.loop-v-smaller
-loop-v-smaller c =
-    let line-inside : c.loop-v.v < length c.args.spectrum.now = line-in c.requires.0.1 c.loop-v.invariant (omega arith) in
-    omega (arith, line-inside)
+bounds-spectrum-mirror g c = mirror_in (length c.args.spectrum.now) c.loop-v.v c.loop-v.mirror (omega (arith, two_or_more c.requires.taken.1)) c.loop-v.invariant.1
 
 pub loop-v-preserved : goal.loop-v-preserved
-loop-v-preserved c = next-filled c.requires.0.1 c.loop-v.invariant (omega arith) (sfits_of c.formula.type_inv) c.formula.ensures (omega arith) (omega arith) (omega arith)
-
-pub returns : goal.returns
-returns c = all_filled c.requires.0.1 c.loop-v.invariant (omega arith)
+loop-v-preserved g c = let Q = goal.F-post g c.args.value in let xs = c.args.spectrum.now in let a = c.requires.taken.1 in let v = c.loop-v.v in let m = c.loop-v.mirror in
+    let below : v < length xs = omega (arith, two_or_more a, c.requires.long, c.loop-v.auto.lines) in (
+      filled_more Q xs c.loop-v.lines v _ (omega arith) c.loop-v.invariant.0
+          (line_written Q xs a v m v (sfits_of c.value.type_inv) (line_at xs v below) (mirror_at xs v m c.loop-v.invariant.1) c.value.ensures),
+      mirror_later (length xs) (v + 1) _ (omega arith) (omega arith) refl,
+    )

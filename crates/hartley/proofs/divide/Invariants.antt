@@ -1,6 +1,6 @@
 use mathlib.Core.Path.{◌≡◌}
 use mathlib.Core.List.{List}
-use Prim.Native.Nat.{ℕ, ◌-◌, ◌^◌, ◌≤◌}
+use Prim.Native.Nat.{ℕ, ◌^◌, ◌≤◌}
 use lib.IntN.{ℤ, pos}
 use lib.ListN.{length}
 use Rattle.ints.specs.Cells.{cell}
@@ -14,8 +14,5 @@ pub record Mapped (f : ℤ → ℤ) (ys xs : List ℤ) (i : ℕ) : Type 0 where
   pub new : Filled (pos 0) (λ k. f (cell ys k)) i xs
   pub old : (k : ℕ) → i ≤ k → cell xs k ≡ cell ys k
 
-abbrev pub invariant-loop-i : goal.invariant-loop-i
-invariant-loop-i l = Mapped (rounded (2 ^ l.p)) l.initial.cells l.cells l.i
-
-abbrev pub decreases-loop-i : goal.decreases-loop-i
-decreases-loop-i l = length l.cells - l.i
+abbrev pub invariant-loop-x : goal.invariant-loop-x
+invariant-loop-x l = Mapped (rounded (2 ^ l.p)) l.initial.cells l.cells l.x-index

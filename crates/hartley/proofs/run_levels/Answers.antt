@@ -1,6 +1,7 @@
--- `run_levels` is right because either table serves, and the coarse one is taken for up to 2^6 cells alone.
+-- `run_levels` is right because the coarse table serves up to 2^6 cells, and is taken for those alone.
 use native.Mathlib.Omega.{arith}
+use Rattle.hartley.proofs.Tables.{coarse_table, table-serves}
 use Rattle.hartley.proofs.run_levels.Goals as goal
 
-pub by_coarse_table-requires : goal.by_coarse_table-requires
-by_coarse_table-requires c = (omega arith, c.requires)
+pub run_by_table-requires : goal.run_by_table-requires
+run_by_table-requires c = (c.requires, table-serves _ 4 _ (omega arith) (omega arith) (coarse_table _ c.coarse_table.ensures))

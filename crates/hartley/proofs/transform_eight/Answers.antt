@@ -7,12 +7,12 @@ use Rattle.permutation.proofs.Exchanging.{eight_permuted}
 use Rattle.hartley.proofs.Steps.{steps, levels_can_run}
 use Rattle.hartley.proofs.transform_eight.Goals as goal
 
-pub by_coarse_table-requires : goal.by_coarse_table-requires
-by_coarse_table-requires c =
+pub run_levels-requires : goal.run_levels-requires
+run_levels-requires c =
     let moved : c.exchange-2.new.cells ≡ permuted 3 c.args.cells.now = c.exchange-2.ensures ∙ ap (exchanged 3 6) c.exchange.ensures ∙ eight_permuted c.args.cells.now c.requires.long in
-    (omega arith, levels_can_run c.requires moved (omega arith))
+    levels_can_run c.requires moved (omega arith)
 
 pub returns : goal.returns
 returns c =
     let moved : c.exchange-2.new.cells ≡ permuted 3 c.args.cells.now = c.exchange-2.ensures ∙ ap (exchanged 3 6) c.exchange.ensures ∙ eight_permuted c.args.cells.now c.requires.long in
-    c.by_coarse_table.ensures ∙ steps 3 c.args.cells.now _ moved
+    c.run_levels.ensures ∙ steps 3 c.args.cells.now _ moved

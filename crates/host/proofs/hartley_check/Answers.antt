@@ -15,7 +15,7 @@ use Rattle.host.proofs.hartley_check.Goals as goal
 -- r is the packed answer to the trace
 unpacks : (trace : List ℕ) (r : ℕ) → Bytes trace → r ≡ packed_trace (trace_answer (contents trace)) → unpacked_trace r ≡ contents_numbers (contents trace)
 unpacks trace r b e = ap unpacked_trace e
-    ∙ trace_unpacked (trace_answer (contents trace)) (λ refusal q. omega (arith, (refused_range trace refusal (sym q)).2)) (λ head blocks q. accepted_range trace head blocks (sym q) b)
+    ∙ trace_unpacked (trace_answer (contents trace)) (λ refusal q. omega (arith, (refused_range trace refusal (sym q)).2)) (λ summary q. let r = accepted_range trace summary.head summary.blocks (sym q) b in (r.0, r.1, omega (arith, r.2)))
     ∙ numbers_told (contents trace)
 
 pub returns : goal.returns

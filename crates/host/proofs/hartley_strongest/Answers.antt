@@ -6,7 +6,7 @@ use Rattle.search_bytes.proofs.Told.{strongest_told}
 use Rattle.host.proofs.hartley_strongest.Goals as goal
 
 pub returns : goal.returns
-returns c = let e = c.packed_search.ensures ∙ ap packed_search c.strongest.ensures in record {
+returns c = let e = c.packed_found.ensures ∙ ap packed_search c.strongest.ensures in record {
   answer = e;
   numbers = strongest_told _ (as_line _) (as_line _) e;
 }

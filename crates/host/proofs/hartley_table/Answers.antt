@@ -5,8 +5,9 @@ use mathlib.Core.List.{List, [], ◌∷◌}
 use Prim.Native.Nat.{ℕ}
 use lib.Dec.{eqb}
 use lib.ListN.{length}
+use Rattle.std.specs.Prelude.{Result, Ok, Err}
+use Rattle.refusal.specs.declared.Refusal.{Refusal}
 use Rattle.refusal.specs.declared.Refusal.TheVariants.{Misfit}
-use Rattle.block.specs.declared.Answer.TheVariants.{Done, Refused}
 use Rattle.cell_bytes.specs.CellBytes.{cells_in}
 use Rattle.packing.specs.Packing.{packed, packed_refusal, unpacked_block}
 use Rattle.table_bytes.specs.TableLeft.{table_answer, table_numbers}
@@ -16,7 +17,7 @@ table_told : (lent : List ℕ) (r : ℕ) → r ≡ packed (table_answer lent) �
 unfolding table_answer table_numbers unpacked_block packed_refusal
 table_told lent r e = rw e (go (eqb (length (cells_in lent)) 257))
   where
-    go : (t : Bool) → unpacked_block (packed (cond t Done (Refused Misfit))) ≡ cond t [] (2 ∷ 0 ∷ [])
+    go : (t : Bool) → unpacked_block (packed (cond {A = Result (Unit {0}) Refusal} t (Ok tt) (Err Misfit))) ≡ cond t [] (2 ∷ 0 ∷ [])
     go true = refl
     go false = refl
 

@@ -1,5 +1,4 @@
 -- `rounded` is right because the shift by 63 takes 1 off a negative x and nothing off any other, and the last shift rounds down (`rounded_by_floor`).
-use borrow.Author.Rules.{rules}
 use mathlib.Core.Path.{◌≡◌, refl, sym, ◌∙◌, ap, subst}
 use mathlib.Core.List.{[], ◌∷◌}
 use Prim.Native.Nat.{ℕ, ◌*◌, ◌/◌, ◌^◌, ◌≤◌, ◌<◌}

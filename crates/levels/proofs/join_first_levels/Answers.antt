@@ -4,9 +4,7 @@ use mathlib.Core.List.{List, [], ◌∷◌}
 use Prim.Native.Nat.{ℕ, ◌+◌, ◌*◌, ◌-◌, ◌/◌, ◌^◌, ◌≤◌}
 use native.Mathlib.Nat.{zero-mul}
 use native.Mathlib.Omega.{arith}
-use lib.IntN.{ℤ}
 use lib.ListN.{length, get_or}
-use mir.Facts.{to_z-of_z}
 use Rattle.ints.specs.Tabulate.{tabulate}
 use Rattle.ints.proofs.Powers.{two_pow_pred}
 use Rattle.ints.proofs.Tables.{get_d_tabulate}
@@ -15,7 +13,7 @@ use Rattle.levels.specs.Ready.{Serves}
 use Rattle.levels.proofs.Blocks.{entries-many, quarter_turn}
 use Rattle.levels.proofs.join_first_levels.Goals as goal
 
-module _ {s : ℕ} {half : ℤ} {quarter : List ℕ} (S : Serves s half 3 quarter) where
+module _ {s : ℕ} {quarter : List ℕ} (S : Serves s 3 quarter) where
   some : 1 ≤ S.t
   some = omega (arith, S.enough)
 
@@ -46,8 +44,8 @@ module _ {s : ℕ} {half : ℤ} {quarter : List ℕ} (S : Serves s half 3 quarte
       middle-at : 2 ^ (S.t - 1) * apart ≡ 128
       middle-at = omega (arith, whole, ap (λ (n : ℕ). n * apart) (two_pow_pred S.t some))
 
-  pub serves-eighths : (three : List ℕ) → three ≡ get_or quarter 0 0 ∷ get_or quarter ((length quarter - 1) / 2) 0 ∷ get_or quarter (length quarter - 1) 0 ∷ [] → (h : ℤ) → h ≡ half → Serves s h 3 three
-  serves-eighths three e h eh = record { scale = rw eh S.scale; t = 1; most = omega arith; enough = omega arith; at_quarter = e ∙ eighths }
+  pub serves-eighths : (three : List ℕ) → three ≡ get_or quarter 0 0 ∷ get_or quarter ((length quarter - 1) / 2) 0 ∷ get_or quarter (length quarter - 1) 0 ∷ [] → Serves s 3 three
+  serves-eighths three e = record { scale = S.scale; t = 1; most = omega arith; enough = omega arith; at_quarter = e ∙ eighths }
 
 pub overflow_sub-last : goal.overflow_sub-last
 overflow_sub-last c = omega (arith, entries-many c.requires.table)
@@ -62,4 +60,4 @@ pub bounds-quarter-last-2 : goal.bounds-quarter-last-2
 bounds-quarter-last-2 c = omega (arith, entries-many c.requires.table)
 
 pub join_eights-requires : goal.join_eights-requires
-join_eights-requires c = record { table = serves-eighths c.requires.table _ refl _ (to_z-of_z c.ranges.half); whole = c.requires.whole; room = c.requires.room }
+join_eights-requires c = record { table = serves-eighths c.requires.table _ refl; whole = c.requires.whole; room = c.requires.room }

@@ -9,7 +9,6 @@ use lib.Dec.{T, ltb, ltb→lt, nltb→le}
 use lib.IntN.{ℤ}
 use lib.ListN.{length}
 use lib.Pow.{pow_pos, pow-add, pow_mono}
-use mir.Facts.{to_z-of_z}
 use Rattle.ints.proofs.Powers.{two_pow}
 use Rattle.spectrum.specs.Spectrum.{level_at, levels_at}
 use Rattle.levels.specs.Ready.{LaterReady, LevelReady}
@@ -41,13 +40,13 @@ whole-pairs l P h = ap (λ (N : ℕ). N % (2 * (2 * 2 ^ l))) all ∙ mul-mod_lef
 stride-is : (many l rest : ℕ) → many ≡ 2 ^ l * rest + 1 → (many - 1) / 2 ^ l ≡ rest
 stride-is many l rest e = ap (λ (m : ℕ). m / 2 ^ l) (omega arith) ∙ mul-div_right rest (pow_pos l)
 
-module _ {s : ℕ} {half : ℤ} {P : ℕ} {quarter : List ℕ} {before cells : List ℤ} {n stride : ℕ} (R : LaterReady s half P quarter before) (B : Behind s P quarter before cells n stride) where
+module _ {s : ℕ} {P : ℕ} {quarter : List ℕ} {before cells : List ℤ} {n stride : ℕ} (R : LaterReady s P quarter before) (B : Behind s P quarter before cells n stride) where
   -- the next level is there where n is less than all
   some_left : n < length before → suc B.l < P
   some_left h = fewer (suc B.l) P (omega (arith, B.halves, R.long, two_pow B.l))
 
-  level-ready : n < length before → (h : ℤ) → h ≡ half → LevelReady s h n stride quarter cells
-  level-ready less h e = let S = serves_fewer R.ready.table (suc (suc B.l)) (some_left less) h e in record {
+  level-ready : n < length before → LevelReady s n stride quarter cells
+  level-ready less = let S = serves_fewer R.ready.table (suc (suc B.l)) (some_left less) in record {
     l = B.l;
     table = S;
     halves = B.halves;
@@ -77,10 +76,10 @@ module _ {s : ℕ} {half : ℤ} {P : ℕ} {quarter : List ℕ} {before cells : L
       last = omega (arith, B.most, more)
 
 -- the table serves level 3, and more
-third : {s : ℕ} {half : ℤ} {P : ℕ} {quarter : List ℕ} {ys : List ℤ} → LaterReady s half P quarter ys → 1 ≤ length quarter
-third {s} {half} R = omega (arith, entries-many (serves_fewer R.ready.table 2 (omega (arith, R.least)) half refl))
+third : {s : ℕ} {P : ℕ} {quarter : List ℕ} {ys : List ℤ} → LaterReady s P quarter ys → 1 ≤ length quarter
+third R = omega (arith, entries-many (serves_fewer R.ready.table 2 (omega (arith, R.least))))
 
-first-behind : {s : ℕ} {half : ℤ} {P : ℕ} {quarter : List ℕ} {ys : List ℤ} → LaterReady s half P quarter ys → Behind s P quarter ys ys 8 ((length quarter - 1) / 4)
+first-behind : {s : ℕ} {P : ℕ} {quarter : List ℕ} {ys : List ℤ} → LaterReady s P quarter ys → Behind s P quarter ys ys 8 ((length quarter - 1) / 4)
 first-behind R = record { l = 2; least = omega arith; most = R.least; halves = omega arith; strides = refl; long = refl; behind = λ xs e. e }
 
 pub overflow_sub-stride : goal.overflow_sub-stride
@@ -92,7 +91,7 @@ loop-n-init c = first-behind c.requires
 pub join_level-requires : goal.join_level-requires
 join_level-requires c =
     let less : c.loop-n.n < length c.args.cells.now = omega (arith, c.loop-n-test.true, c.loop-n.invariant.long) in
-    level-ready c.requires c.loop-n.invariant less _ (to_z-of_z c.ranges.half)
+    level-ready c.requires c.loop-n.invariant less
 
 pub overflow_mul-n : goal.overflow_mul-n
 overflow_mul-n c =

@@ -17,7 +17,7 @@ pub record Behind (s P : ℕ) (quarter : List ℕ) (before cells : List ℤ) (n 
   pub behind : (xs : List ℤ) → before ≡ levels_at s 3 xs → cells ≡ levels_at s (suc l) xs
 
 abbrev pub invariant-loop-n : goal.invariant-loop-n
-invariant-loop-n l = Behind l.digits l.p l.quarter l.initial.cells l.cells l.n l.stride
+invariant-loop-n l = Behind l.scale.digits l.p l.quarter l.initial.cells l.cells l.n l.stride
 
 abbrev pub decreases-loop-n : goal.decreases-loop-n
 decreases-loop-n l = length l.initial.cells - l.n

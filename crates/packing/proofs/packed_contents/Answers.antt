@@ -5,4 +5,4 @@ use Rattle.packing.proofs.Packing.{accepted-packed}
 use Rattle.packing.proofs.packed_contents.Goals as goal
 
 pub returns : goal.returns
-returns c = omega arith ∙ sym (accepted-packed c.args.head c.args.blocks)
+returns c = omega arith ∙ sym (accepted-packed c.args.summary)

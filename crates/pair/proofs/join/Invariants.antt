@@ -1,12 +1,9 @@
 use mathlib.Core.Path.{◌≡◌}
-use Prim.Native.Nat.{◌*◌, ◌-◌, ◌≤◌, ◌<◌}
+use Prim.Native.Nat.{◌*◌}
 use Rattle.ints.specs.Cells.{cell}
 use Rattle.pair.specs.Pair.{pair_line}
 use Rattle.pair.proofs.Joining.{Joined}
 use Rattle.pair.proofs.join.Given as goal
 
 abbrev pub invariant-loop-v : goal.invariant-loop-v
-invariant-loop-v l = (0 < l.v) × (2 * l.v ≤ l.n) × (l.entry ≡ l.v * l.stride) × Joined (pair_line l.digits l.n (cell l.initial.cells)) (cell l.initial.cells) l.n l.v l.cells
-
-abbrev pub decreases-loop-v : goal.decreases-loop-v
-decreases-loop-v l = l.n - l.v
+invariant-loop-v l = (l.entry ≡ l.v * l.stride) × Joined (pair_line l.scale.digits l.n (cell l.initial.cells)) (cell l.initial.cells) l.n l.v l.cells

@@ -10,14 +10,14 @@ use lib.Pow.{pow_pos, pow_mono}
 use mir.Facts.{to_z-of_z}
 use mir.Syntax.{w64}
 use mir.Val.{SFits, to_z, of_z}
-use Rattle.ints.specs.Quotient.{Halved, rounded}
+use Rattle.ints.specs.Quotient.{rounded}
 use Rattle.ints.proofs.Ring.{ring, quotes}
 use Rattle.ints.proofs.Abs.{abs_neg}
 use Rattle.ints.proofs.Fit.{fits}
 use Rattle.ints.proofs.Rounding.{rounded-size}
 use Rattle.ints.specs.Cells.{cell}
 use Rattle.spectrum.specs.Limits.{LARGEST_PRODUCT, LARGEST_SUM, Room}
-use Rattle.pair.specs.Pair.{Scale, split, turned}
+use Rattle.pair.specs.Pair.{split, turned}
 use Rattle.pair.proofs.Splitting.{room_small, room_back, small-back, split-long, split_other}
 use Rattle.pair.proofs.join_quad.Goals as goal
 
@@ -40,9 +40,6 @@ minus_fits : (s : ℕ) (z : ℤ) → s ≤ 22 → nat_abs z ≤ 2 ^ s → SFits 
 minus_fits s z k h = fits (pos 0 -ℤ z) (omega (arith, minus-size s z h, scale_small s k))
 
 -- ---- the two quotients
-
-halved : {s : ℕ} {half : ℤ} → Scale s half → (h : ℤ) → h ≡ half → Halved s h
-halved S h e = record { least = omega (arith, S.least); most = omega (arith, S.most); is = e ∙ S.halved }
 
 read_small : (z : ℤ) → nat_abs z ≤ LARGEST_SUM → nat_abs (to_z w64 (of_z w64 z)) ≤ LARGEST_SUM
 read_small z h = rw (small-back z h) h
@@ -68,57 +65,57 @@ module _ (s : ℕ) (xs ys : List ℤ) (n v : ℕ) (q : ℤ) (e : ys ≡ split xs
 
 pub sum_of_products-requires : goal.sum_of_products-requires
 sum_of_products-requires c = let a = c.args in let p = c.requires in (
-  product_small a.digits (cell a.cells.now (a.n + a.v)) (to_z w64 (of_z w64 a.cosine)) p.second (rw (to_z-of_z c.ranges.cosine) p.cosine),
-  product_small a.digits (cell a.cells.now (a.n + (a.n - a.v))) (to_z w64 (of_z w64 a.sine)) p.second_mirror (rw (to_z-of_z c.ranges.sine) p.sine),
+  product_small a.scale.digits (cell a.cells.now (a.n + a.v)) (to_z w64 (of_z w64 a.cosine)) p.second (rw (to_z-of_z c.ranges.cosine) p.cosine),
+  product_small a.scale.digits (cell a.cells.now (a.n + (a.n - a.v))) (to_z w64 (of_z w64 a.sine)) p.second_mirror (rw (to_z-of_z c.ranges.sine) p.sine),
 )
 
 pub rounded-q-requires : goal.rounded-q-requires
-rounded-q-requires c = (halved c.requires.scale _ (to_z-of_z c.ranges.half), read_small c.sum_of_products.result c.sum_of_products.ensures.1)
+rounded-q-requires c = read_small c.sum_of_products.result c.sum_of_products.ensures.1
 
 pub overflow_sub-cosine : goal.overflow_sub-cosine
-overflow_sub-cosine c = rw (to_z-of_z c.ranges.cosine) (minus_fits c.args.digits c.args.cosine c.requires.scale.most c.requires.cosine)
+overflow_sub-cosine c = rw (to_z-of_z c.ranges.cosine) (minus_fits c.args.scale.digits c.args.cosine c.requires.scale.most c.requires.cosine)
 
 pub sum_of_products-requires-2 : goal.sum_of_products-requires-2
 sum_of_products-requires-2 c = let a = c.args in let p = c.requires in (
-  product_small a.digits (cell a.cells.now (a.n + a.v)) (to_z w64 (of_z w64 a.sine)) p.second (rw (to_z-of_z c.ranges.sine) p.sine),
-  product_small a.digits (cell a.cells.now (a.n + (a.n - a.v))) (to_z w64 (of_z w64 (pos 0 -ℤ to_z w64 (of_z w64 a.cosine)))) p.second_mirror
-      (rw (to_z-of_z c.ranges.cosine, to_z-of_z (minus_fits a.digits a.cosine p.scale.most p.cosine)) (minus-size a.digits a.cosine p.cosine)),
+  product_small a.scale.digits (cell a.cells.now (a.n + a.v)) (to_z w64 (of_z w64 a.sine)) p.second (rw (to_z-of_z c.ranges.sine) p.sine),
+  product_small a.scale.digits (cell a.cells.now (a.n + (a.n - a.v))) (to_z w64 (of_z w64 (pos 0 -ℤ to_z w64 (of_z w64 a.cosine)))) p.second_mirror
+      (rw (to_z-of_z c.ranges.cosine, to_z-of_z (minus_fits a.scale.digits a.cosine p.scale.most p.cosine)) (minus-size a.scale.digits a.cosine p.cosine)),
 )
 
 pub rounded-r-requires : goal.rounded-r-requires
-rounded-r-requires c = (halved c.requires.scale _ (to_z-of_z c.ranges.half), read_small c.sum_of_products-2.result c.sum_of_products-2.ensures.1)
+rounded-r-requires c = read_small c.sum_of_products-2.result c.sum_of_products-2.ensures.1
 
 pub put_both-requires : goal.put_both-requires
 put_both-requires c =
-    let first_small : nat_abs c.rounded-q.result ≤ LARGEST_SUM = let z = c.sum_of_products in quotient-small c.args.digits z.result _ z.ensures.1 c.rounded-q.ensures in
+    let first_small : nat_abs c.rounded-q.result ≤ LARGEST_SUM = let z = c.sum_of_products in quotient-small c.args.scale.digits z.result _ z.ensures.1 c.rounded-q.ensures in
     let a = c.args in let p = c.requires in
-    (p.long, omega (arith, p.below), room_small a.digits (cell a.cells.now a.v) p.first, read_small c.rounded-q.result first_small)
+    (p.long, omega (arith, p.below), room_small a.scale.digits (cell a.cells.now a.v) p.first, read_small c.rounded-q.result first_small)
 
 pub put_both-requires-2 : goal.put_both-requires-2
 put_both-requires-2 c =
-    let second-small : nat_abs c.rounded-r.result ≤ LARGEST_SUM = let z = c.sum_of_products-2 in quotient-small c.args.digits z.result _ z.ensures.1 c.rounded-r.ensures in
+    let second-small : nat_abs c.rounded-r.result ≤ LARGEST_SUM = let z = c.sum_of_products-2 in quotient-small c.args.scale.digits z.result _ z.ensures.1 c.rounded-r.ensures in
     let a = c.args in let p = c.requires in let e = c.put_both.ensures in
-    (still-long a.digits a.cells.now _ a.n a.v _ e p.some p.below p.long, omega (arith, p.below, p.some), still-room a.digits a.cells.now _ a.n a.v _ e p.some p.below p.first_mirror, read_small c.rounded-r.result second-small)
+    (still-long a.scale.digits a.cells.now _ a.n a.v _ e p.some p.below p.long, omega (arith, p.below, p.some), still-room a.scale.digits a.cells.now _ a.n a.v _ e p.some p.below p.first_mirror, read_small c.rounded-r.result second-small)
 
 pub returns : goal.returns
 returns c =
     let first-is : let a = c.args in
-    c.rounded-q.result ≡ turned a.digits (cell a.cells.now (a.n + a.v)) (cell a.cells.now (a.n + (a.n - a.v))) a.cosine a.sine = let a = c.args in let p = c.requires in let z = c.sum_of_products in
-    c.rounded-q.ensures ∙ ap (rounded (2 ^ a.digits)) (small-back z.result z.ensures.1 ∙ z.ensures.0
-    ∙ rw (room_back a.digits (cell a.cells.now (a.n + a.v)) p.second, room_back a.digits (cell a.cells.now (a.n + (a.n - a.v))) p.second_mirror, to_z-of_z c.ranges.cosine, to_z-of_z c.ranges.sine) refl) in
+    c.rounded-q.result ≡ turned a.scale.digits (cell a.cells.now (a.n + a.v)) (cell a.cells.now (a.n + (a.n - a.v))) a.cosine a.sine = let a = c.args in let p = c.requires in let z = c.sum_of_products in
+    c.rounded-q.ensures ∙ ap (rounded (2 ^ a.scale.digits)) (small-back z.result z.ensures.1 ∙ z.ensures.0
+    ∙ rw (room_back a.scale.digits (cell a.cells.now (a.n + a.v)) p.second, room_back a.scale.digits (cell a.cells.now (a.n + (a.n - a.v))) p.second_mirror, to_z-of_z c.ranges.cosine, to_z-of_z c.ranges.sine) refl) in
     let second_is : let a = c.args in
-    c.rounded-r.result ≡ turned a.digits (cell a.cells.now (a.n + a.v)) (cell a.cells.now (a.n + (a.n - a.v))) a.sine (neg_ℤ a.cosine) = let a = c.args in let p = c.requires in let z = c.sum_of_products-2 in
-    c.rounded-r.ensures ∙ ap (rounded (2 ^ a.digits)) (small-back z.result z.ensures.1 ∙ z.ensures.0
+    c.rounded-r.result ≡ turned a.scale.digits (cell a.cells.now (a.n + a.v)) (cell a.cells.now (a.n + (a.n - a.v))) a.sine (neg_ℤ a.cosine) = let a = c.args in let p = c.requires in let z = c.sum_of_products-2 in
+    c.rounded-r.ensures ∙ ap (rounded (2 ^ a.scale.digits)) (small-back z.result z.ensures.1 ∙ z.ensures.0
     ∙ rw (
-      room_back a.digits (cell a.cells.now (a.n + a.v)) p.second,
-      room_back a.digits (cell a.cells.now (a.n + (a.n - a.v))) p.second_mirror,
+      room_back a.scale.digits (cell a.cells.now (a.n + a.v)) p.second,
+      room_back a.scale.digits (cell a.cells.now (a.n + (a.n - a.v))) p.second_mirror,
       to_z-of_z c.ranges.cosine,
       to_z-of_z c.ranges.sine,
-      to_z-of_z (minus_fits a.digits a.cosine p.scale.most p.cosine),
+      to_z-of_z (minus_fits a.scale.digits a.cosine p.scale.most p.cosine),
       minus_is a.cosine,
     ) refl) in
-    let first_small : nat_abs c.rounded-q.result ≤ LARGEST_SUM = let z = c.sum_of_products in quotient-small c.args.digits z.result _ z.ensures.1 c.rounded-q.ensures in
-    let second-small : nat_abs c.rounded-r.result ≤ LARGEST_SUM = let z = c.sum_of_products-2 in quotient-small c.args.digits z.result _ z.ensures.1 c.rounded-r.ensures in
+    let first_small : nat_abs c.rounded-q.result ≤ LARGEST_SUM = let z = c.sum_of_products in quotient-small c.args.scale.digits z.result _ z.ensures.1 c.rounded-q.ensures in
+    let second-small : nat_abs c.rounded-r.result ≤ LARGEST_SUM = let z = c.sum_of_products-2 in quotient-small c.args.scale.digits z.result _ z.ensures.1 c.rounded-r.ensures in
     let a = c.args in
     c.put_both-2.ensures
     ∙ ap₂ (λ (ys : List ℤ) (r : ℤ). split ys a.n (a.n - a.v) r) (c.put_both.ensures ∙ ap (split a.cells.now a.n a.v) (small-back c.rounded-q.result first_small ∙ first-is))

@@ -38,42 +38,29 @@ sizes p many a b e = let w : many ≡ 4 * 2 ^ (p - 2) = e ∙ four p a in
     record { whole = w; half = omega arith; quarter = omega arith; two_halves = omega arith; few = omega (arith, e, pow_mono {i = p} {j = 10} b) }
 
 pub loop-u-init : goal.loop-u-init
-loop-u-init c = let s = sizes c.args.p (length c.args.cells.now) c.requires.0 c.requires.1 c.requires.2 in (omega arith, sym (reversed_zero (c.args.p - 2)), none_exchanged _ _ _ _ c.args.cells.now s.whole)
+loop-u-init c = let s = sizes c.args.p (length c.args.cells.now) c.requires.0 c.requires.1 c.requires.2 in (sym (reversed_zero (c.args.p - 2)), none_exchanged _ _ _ _ c.args.cells.now s.whole)
 
 pub exchange_four-requires : goal.exchange_four-requires
 exchange_four-requires c =
     let at : Sizes c.args.p (length c.args.cells.now) = sizes c.args.p (length c.args.cells.now) c.requires.0 c.requires.1 c.requires.2 in
-    let below : c.loop-u.u < 2 ^ (c.args.p - 2) = omega (arith, c.loop-u-test.true, at.quarter) in
-    let l = c.loop-u in (l.invariant.2.long ∙ at.two_halves, omega (arith, below, at.half), omega (arith, rw (sym l.invariant.1) at (reversed-lt (c.args.p - 2) l.u), at.half), at.few)
+    let l = c.loop-u in let turned = rw (sym l.invariant.0) at (reversed-lt (c.args.p - 2) l.u) in
+    (l.invariant.1.long ∙ at.two_halves, omega (arith, at.half, at.quarter), omega (arith, turned, at.half), at.few)
 
 pub next_reversed-r-requires : goal.next_reversed-r-requires
 next_reversed-r-requires c =
     let at : Sizes c.args.p (length c.args.cells.now) = sizes c.args.p (length c.args.cells.now) c.requires.0 c.requires.1 c.requires.2 in
     omega (arith, at.few)
 
-pub overflow_add-u : goal.overflow_add-u
-overflow_add-u c =
-    let at : Sizes c.args.p (length c.args.cells.now) = sizes c.args.p (length c.args.cells.now) c.requires.0 c.requires.1 c.requires.2 in
-    let below : c.loop-u.u < 2 ^ (c.args.p - 2) = omega (arith, c.loop-u-test.true, at.quarter) in
-    omega (arith, below, at.half, at.few)
-
-pub loop-u-smaller : goal.loop-u-smaller
-loop-u-smaller c =
-    let at : Sizes c.args.p (length c.args.cells.now) = sizes c.args.p (length c.args.cells.now) c.requires.0 c.requires.1 c.requires.2 in
-    let below : c.loop-u.u < 2 ^ (c.args.p - 2) = omega (arith, c.loop-u-test.true, at.quarter) in
-    omega (arith, below)
-
 pub loop-u-preserved : goal.loop-u-preserved
 loop-u-preserved c =
     let at : Sizes c.args.p (length c.args.cells.now) = sizes c.args.p (length c.args.cells.now) c.requires.0 c.requires.1 c.requires.2 in
-    let below : c.loop-u.u < 2 ^ (c.args.p - 2) = omega (arith, c.loop-u-test.true, at.quarter) in
+    let below : c.loop-u.u < 2 ^ (c.args.p - 2) = omega (arith, at.quarter) in
     let l = c.loop-u in let Q = c.args.p - 2 in (
-      omega (arith, below),
-      c.next_reversed-r.ensures Q l.u (ap (λ (n : ℕ). n / 2) at.quarter) l.invariant.1,
-      fours_next (2 ^ Q) (reversed Q) (λ u h. reversed-lt Q u) (reversed-twice Q) (cell c.args.cells.now) l.u l.cells below l.invariant.2 l.r _ _ l.invariant.1 at.half c.exchange_four.ensures,
+      c.next_reversed-r.ensures Q l.u (ap (λ (n : ℕ). n / 2) at.quarter) l.invariant.0,
+      fours_next (2 ^ Q) (reversed Q) (λ u h. reversed-lt Q u) (reversed-twice Q) (cell c.args.cells.now) l.u l.cells below l.invariant.1 l.r _ _ l.invariant.0 at.half c.exchange_four.ensures,
     )
 
 pub returns : goal.returns
 returns c = let l = c.loop-u in let Q = c.args.p - 2 in let z = sizes c.args.p (length c.args.cells.now) c.requires.0 c.requires.1 c.requires.2 in
-    all_exchanged Q c.args.cells.now l.cells (subst (λ (k : ℕ). Exchanged Q (cell c.args.cells.now) k l.cells) (omega (arith, l.invariant.0, z.quarter, c.loop-u-test.false)) l.invariant.2)
+    all_exchanged Q c.args.cells.now l.cells (subst (λ (k : ℕ). Exchanged Q (cell c.args.cells.now) k l.cells) (omega (arith, z.quarter)) l.invariant.1)
     ∙ ap (λ (P : ℕ). permuted P c.args.cells.now) (digits c.args.p c.requires.0)

@@ -10,6 +10,7 @@ use Rattle.cosine.specs.Root as whole-root
 use Rattle.cosine.proofs.Root.{root_is as whole-root-is}
 use Rattle.roots.proofs.digits_of.Invariants.{Long}
 use Rattle.roots.proofs.digits_of.Goals as goal
+use Rattle.roots.proofs.digits_of.Goals.{then-trial-brought, else-trial-brought}
 
 module _ (x root rest left n : ℕ) (w : Long x root rest left n) where
   -- the two digits that are brought down, and those that are left then
@@ -57,35 +58,36 @@ module _ (x root rest left n : ℕ) (w : Long x root rest left n) where
       exact : root * root + rest ≡ x * 4 ^ more
       exact = omega (arith, w.whole, scaled, w.short)
 
-pub loop-digits-init : goal.loop-digits-init
-loop-digits-init c = (record { whole = omega arith; short = omega (arith, c.ranges.x); few = omega arith; small = omega arith }, omega arith)
+pub loop-digit-init : goal.loop-digit-init
+loop-digit-init c = record { whole = omega arith; short = omega (arith, c.ranges.x); few = omega arith; small = omega arith }
 
 pub overflow_mul-brought : goal.overflow_mul-brought
-overflow_mul-brought c = omega (arith, fits _ _ _ _ _ c.loop-digits.invariant.0 (omega arith))
+overflow_mul-brought c = omega (arith, fits _ _ _ _ _ c.loop-digit.invariant (omega arith))
 
 pub overflow_add-brought : goal.overflow_add-brought
-overflow_add-brought c = omega (arith, fits _ _ _ _ _ c.loop-digits.invariant.0 (omega arith))
+overflow_add-brought c = omega (arith, fits _ _ _ _ _ c.loop-digit.invariant (omega arith))
 
 pub overflow_mul-trial : goal.overflow_mul-trial
-overflow_mul-trial c = omega (arith, fits _ _ _ _ _ c.loop-digits.invariant.0 (omega arith))
+overflow_mul-trial c = omega (arith, fits _ _ _ _ _ c.loop-digit.invariant (omega arith))
 
 pub overflow_add-trial : goal.overflow_add-trial
-overflow_add-trial c = omega (arith, fits _ _ _ _ _ c.loop-digits.invariant.0 (omega arith))
+overflow_add-trial c = omega (arith, fits _ _ _ _ _ c.loop-digit.invariant (omega arith))
 
 pub overflow_mul-root : goal.overflow_mul-root
-overflow_mul-root c = omega (arith, fits _ _ _ _ _ c.loop-digits.invariant.0 (omega arith))
+overflow_mul-root c = omega (arith, fits _ _ _ _ _ c.loop-digit.invariant (omega arith))
 
 pub overflow_add-root : goal.overflow_add-root
-overflow_add-root c = omega (arith, fits _ _ _ _ _ c.loop-digits.invariant.0 (omega arith))
-
-pub loop-digits-preserved-then-trial-brought : goal.loop-digits-preserved-then-trial-brought
-loop-digits-preserved-then-trial-brought c = (one _ _ _ _ _ c.loop-digits.invariant.0 _ _ refl (omega arith), omega arith)
+overflow_add-root c = omega (arith, fits _ _ _ _ _ c.loop-digit.invariant (omega arith))
 
 pub overflow_mul-root-else-trial-brought : goal.overflow_mul-root-else-trial-brought
-overflow_mul-root-else-trial-brought c = omega (arith, fits _ _ _ _ _ c.loop-digits.invariant.0 (omega arith))
+overflow_mul-root-else-trial-brought c = omega (arith, fits _ _ _ _ _ c.loop-digit.invariant (omega arith))
 
-pub loop-digits-preserved : goal.loop-digits-preserved
-loop-digits-preserved c = (none _ _ _ _ _ c.loop-digits.invariant.0 _ refl (omega arith), omega arith)
+pub loop-digit-preserved : goal.loop-digit-preserved
+loop-digit-preserved c =
+    elim c.if-trial-brought.branch [
+      | then-trial-brought w ↦ rw (w.root-is, w.rest-is) (one _ _ _ _ _ c.loop-digit.invariant _ _ refl (omega arith))
+      | else-trial-brought w ↦ rw (w.root-is, w.rest-is) (none _ _ _ _ _ c.loop-digit.invariant _ refl (omega arith))
+    ]
 
 pub returns : goal.returns
-returns c = settled _ _ _ _ _ c.loop-digits.invariant.0 _ (omega arith)
+returns c = settled _ _ _ _ _ c.loop-digit.invariant _ (omega arith)

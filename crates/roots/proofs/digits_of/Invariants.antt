@@ -1,5 +1,5 @@
 use mathlib.Core.Path.{◌≡◌}
-use Prim.Native.Nat.{ℕ, ◌+◌, ◌*◌, ◌-◌, ◌^◌, ◌≤◌, ◌<◌}
+use Prim.Native.Nat.{ℕ, ◌+◌, ◌*◌, ◌^◌, ◌≤◌, ◌<◌}
 use Rattle.roots.proofs.digits_of.Given as goal
 
 -- after n digits: x × 4^n is root² and the rest, in units of 2^64, and what is left
@@ -9,8 +9,5 @@ pub record Long (x root rest left n : ℕ) : Type 0 where
   pub few : rest ≤ 2 * root
   pub small : root < 2 ^ n
 
-abbrev pub invariant-loop-digits : goal.invariant-loop-digits
-invariant-loop-digits l = Long l.x l.root l.rest l.left l.digits × (l.digits ≤ 32 + l.more)
-
-abbrev pub decreases-loop-digits : goal.decreases-loop-digits
-decreases-loop-digits l = 32 + l.more - l.digits
+abbrev pub invariant-loop-digit : goal.invariant-loop-digit
+invariant-loop-digit l = Long l.x l.root l.rest l.left l.digit

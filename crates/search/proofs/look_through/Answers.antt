@@ -1,33 +1,22 @@
 -- `look_through` is right because the strongest of the lines before `next` and of one line more, or four, is the strongest before or among these.
 use mir.Syntax.{w64}
 use borrow.Author.Rules.{sfits_of}
-use mathlib.Core.Path.{◌≡◌, ◌∙◌, subst}
-use Prim.Native.Nat.{ℕ, ◌-◌}
+use mathlib.Core.Path.{◌≡◌, ◌∙◌}
+use Prim.Native.Nat.{◌+◌, ◌-◌, ◌*◌, ◌%◌}
 use native.Mathlib.Omega.{arith}
 use mir.Facts.{to_z-of_z}
-use Rattle.search.specs.Search.{Strongest}
-use Rattle.search.proofs.Band.{peak_first, peak_four, peak_next}
+use Rattle.search.proofs.Band.{peak_four, peak_next, strongest_of}
 use Rattle.search.proofs.look_through.Goals as goal
 
-pub loop-next-init : goal.loop-next-init
-loop-next-init c = let p = c.power_at in (omega arith, peak_first _ _ (to_z-of_z {w = w64} (sfits_of p.type_inv) ∙ p.ensures))
-
--- ---- one line more
-
-pub loop-next-preserved-then-last-next-lt3 : goal.loop-next-preserved-then-last-next-lt3
-loop-next-preserved-then-last-next-lt3 c = let p = c.power_at-then-last-next-lt3 in
-    (omega arith, rw c.stronger-peak.ensures (peak_next _ _ _ _ c.loop-next.peak (omega arith) (to_z-of_z {w = w64} (sfits_of p.type_inv) ∙ p.ensures) c.loop-next.invariant.1))
-
--- ---- four lines more
-
 pub loop-next-preserved : goal.loop-next-preserved
-loop-next-preserved c = (
-  omega arith,
-  rw c.stronger_of_four-peak.ensures (peak_four _ _ _ c.loop-next.peak
-      (to_z-of_z {w = w64} (sfits_of c.power_at-else-last-next-lt3.type_inv) ∙ c.power_at-else-last-next-lt3.ensures) (to_z-of_z {w = w64} (sfits_of c.power_at-else-last-next-lt3-2.type_inv) ∙ c.power_at-else-last-next-lt3-2.ensures)
-      (to_z-of_z {w = w64} (sfits_of c.power_at-else-last-next-lt3-3.type_inv) ∙ c.power_at-else-last-next-lt3-3.ensures) (to_z-of_z {w = w64} (sfits_of c.power_at-else-last-next-lt3-4.type_inv) ∙ c.power_at-else-last-next-lt3-4.ensures) c.loop-next.invariant.1),
-)
+loop-next-preserved g c = let p = c.cell-in-loop-next in
+    rw c.stronger-peak.ensures (peak_next _ _ _ _ c.loop-next.peak (omega arith) (to_z-of_z {w = w64} (sfits_of p.type_inv) ∙ p.ensures) c.loop-next.invariant)
+
+pub loop-k-preserved : goal.loop-k-preserved
+loop-k-preserved g c =
+    let p = c.cell-in-loop-k in let q = c.cell-in-loop-k-2 in let r = c.cell-in-loop-k-3 in let s = c.cell-in-loop-k-4 in
+    rw c.stronger_of_four-peak.ensures (peak_four _ _ _ _ c.loop-k.peak (omega arith) (to_z-of_z {w = w64} (sfits_of p.type_inv) ∙ p.ensures)
+    (to_z-of_z {w = w64} (sfits_of q.type_inv) ∙ q.ensures) (to_z-of_z {w = w64} (sfits_of r.type_inv) ∙ r.ensures) (to_z-of_z {w = w64} (sfits_of s.type_inv) ∙ s.ensures) c.loop-k.invariant)
 
 pub returns : goal.returns
-returns c = let e : c.loop-next.next - 1 ≡ c.args.high.0 = omega arith in
-    subst (λ (high : ℕ). Strongest c.args.powers.now c.args.low.0 high c.loop-next.peak.line) e c.loop-next.invariant.1.strongest
+returns g c = strongest_of _ _ _ _ (omega arith) c.loop-k.invariant

@@ -1,9 +1,9 @@
-use Prim.Native.Nat.{◌+◌, ◌-◌, ◌≤◌}
+use Prim.Native.Nat.{◌+◌, ◌*◌}
 use Rattle.search.proofs.Band.{Peaked}
 use Rattle.search.proofs.look_through.Given as goal
 
 abbrev pub invariant-loop-next : goal.invariant-loop-next
-invariant-loop-next l = (l.next ≤ l.last + 1) × Peaked l.powers l.first l.next l.peak
+invariant-loop-next g l = Peaked (g.C.Cells.list l.powers) l.fn.low.0 l.next l.peak
 
-abbrev pub decreases-loop-next : goal.decreases-loop-next
-decreases-loop-next l = l.last + 1 - l.next
+abbrev pub invariant-loop-k : goal.invariant-loop-k
+invariant-loop-k g l = Peaked (g.C.Cells.list l.powers) l.fn.low.0 (l.fours + 4 * l.k) l.peak

@@ -1,24 +1,19 @@
 -- `smooth_in` is right because the samples and weights that it reads are those that the bytes spell, or are refused as those would be; `smooth` does the rest.
-use mathlib.Core.Path.{◌≡◌, refl, ◌∙◌, ap}
-use mathlib.Core.List.{List}
+use mathlib.Core.Path.{◌∙◌, ap}
 use Prim.Native.Nat.{ℕ}
-use lib.IntN.{ℤ}
-use lib.ListN.{length}
-use Rattle.kind.specs.BlockKinds.{LARGEST}
+use native.Mathlib.Omega.{arith}
 use Rattle.little_endian.specs.Reading.{signeds}
 use Rattle.cell_bytes.specs.CellBytes.{CELL}
-use Rattle.cell_bytes.proofs.CellsRead.{decoded_all, room_fits}
+use Rattle.lent_cells.proofs.Rooms.{front_signeds, room_front}
 use Rattle.packing.specs.Packing.{packed}
 use Rattle.smooth_bytes.proofs.Read.{answered, values_read}
 use Rattle.smooth_bytes.proofs.smooth_in.Goals as goal
 
 pub returns : goal.returns
-returns c =
-    let bytes : List ℕ = c.args.bytes.now in
-    let weights : List ℕ = c.args.weights.now in
-    let samples : List ℤ = c.decode.new.cells in
-    let factors : List ℤ = c.decode-2.new.cells in
-    let samples-read : samples ≡ signeds CELL (length c.args.cells.now) bytes = c.decode.ensures ∙ decoded_all bytes c.args.cells.now (room_fits LARGEST bytes _ c.requires.cells_len _ refl) in
-    let factors-read : factors ≡ signeds CELL (length c.args.values.now) weights = c.decode-2.ensures ∙ values_read weights _ c.args.values.now c.requires.values_len in
-    let e = c.smooth.ensures in let a = c.args in
-    answered bytes weights _ c.requires.cells_len samples factors samples-read _ c.requires.values_len factors-read (c.packed-answer.ensures ∙ ap packed e.answer) _ _ e.cells c.smooth.auto.cells c.write_back.ensures
+returns g c =
+    let a = c.args in let n = c.requires.samples_len in let m = c.requires.count_len in let room = c.requires.room in let weights = a.weights.now in
+    let samples-read = front_signeds a.bytes.now a.samples g.row.ROOM room.0 n c.decode.ensures in
+    let front = room_front a.count g.row.ROOM (omega (arith, room.0, m.1)) in
+    let weights-read = c.decode-2.ensures ∙ values_read weights a.samples _ (front ∙ m.0) ∙ ap (λ (k : ℕ). signeds CELL k weights) front in
+    let e = c.smooth.ensures in
+    answered a.bytes.now weights a.samples n c.decode.new.cells c.decode-2.new.cells samples-read.0 a.count m.0 weights-read (c.packed-answer.ensures ∙ ap packed e.answer) _ _ e.cells c.smooth.auto.cells c.write_back.ensures

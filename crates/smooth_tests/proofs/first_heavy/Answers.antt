@@ -8,11 +8,12 @@ use native.Mathlib.Omega.{arith}
 use lib.IntN.{ℤ, pos, nat_abs}
 use lib.ListN.{length, drop, drop_of_length-le}
 use lib.Seq.{drop-cons}
-use lib.Signed.{mag, nat_abs-le}
+use lib.Signed.{nat_abs-le}
 use mir.Facts.{to_z-of_z}
 use mir.Syntax.{w64}
-use mir.Val.{to_z, of_z}
+use mir.Val.{SFits, to_z, of_z}
 use Rattle.ints.specs.Cells.{cell}
+use Rattle.block.proofs.Place.{place_at, place_none}
 use Rattle.exact.specs.Smoothing.{LARGEST_WEIGHTS}
 use Rattle.smooth_tests.specs.Tests.{first_heavy_from, first_heavy}
 use Rattle.smooth_tests.proofs.Heavy.{heavy_here, heavy_later}
@@ -21,47 +22,46 @@ use Rattle.smooth_tests.proofs.first_heavy.Goals as goal
 
 -- ---- weights weighed one by one
 
-weighed-none : {ws : List ℤ} {sum i : ℕ} → sum ≡ 0 → i ≡ 0 → Weighed ws sum i
+weighed-none : {ws : List ℤ} → Weighed ws 0 0
 unfolding first_heavy
-weighed-none e f = rw (e, f) (record { light = omega arith; so_far = omega arith })
+weighed-none = record { light = omega arith; so_far = omega arith }
 
 module _ {ws : List ℤ} {sum i : ℕ} (w : Weighed ws sum i) where
   weighed-all : length ws ≤ i → i ≡ first_heavy ws
   unfolding first_heavy_from
   weighed-all h = let none : first_heavy_from sum (drop i ws) ≡ 0 = rw (drop_of_length-le ws h) in omega (arith, w.so_far)
 
-  -- m is the magnitude of weight i
-  module _ {m : ℕ} (h : i < length ws) (e : m ≡ nat_abs (cell ws i)) where
+  -- m is the magnitude of weight i, as the machine reads it
+  module _ {m : ℕ} (h : i < length ws) (f : SFits w64 (cell ws i)) (e : m ≡ nat_abs (to_z w64 (of_z w64 (cell ws i)))) where
+    told : m ≡ nat_abs (cell ws i)
+    told = e ∙ ap nat_abs (to_z-of_z f)
+
     rest : first_heavy_from sum (drop i ws) ≡ first_heavy_from sum (cell ws i ∷ drop (suc i) ws)
     rest = ap (first_heavy_from sum) (drop-cons ws i (pos 0) h)
 
-    weighed-heavy : LARGEST_WEIGHTS < sum + m → i ≡ first_heavy ws
-    weighed-heavy n = omega (arith, w.so_far, rest ∙ heavy_here sum (cell ws i) (drop (suc i) ws) (omega arith))
+    weighed-fits : sum + m < 2 ^ 64
+    weighed-fits = omega (arith, w.light, told, nat_abs-le (cell ws i) f.sfits)
 
-    weighed-next : sum + m ≤ LARGEST_WEIGHTS → {j : ℕ} → j ≡ i + 1 → Weighed ws (sum + m) j
-    weighed-next l ej = rw (ej, e) (record { light = omega arith; so_far = rw add-one (omega (arith, w.so_far, rest ∙ heavy_later sum (cell ws i) (drop (suc i) ws) (omega arith))) })
+    weighed-heavy : LARGEST_WEIGHTS < sum + m → i ≡ first_heavy ws
+    weighed-heavy n = omega (arith, told, w.so_far, rest ∙ heavy_here sum (cell ws i) (drop (suc i) ws) (omega (arith, told)))
+
+    weighed-next : sum + m ≤ LARGEST_WEIGHTS → Weighed ws (sum + m) (i + 1)
+    weighed-next l = rw told (record {
+      light = omega (arith, told);
+      so_far = rw add-one (omega (arith, w.so_far, rest ∙ heavy_later sum (cell ws i) (drop (suc i) ws) (omega (arith, told))));
+    })
 
 pub loop-i-init : goal.loop-i-init
-loop-i-init c = weighed-none (omega arith) (omega arith)
+loop-i-init c = weighed-none
 
 pub overflow_add-running : goal.overflow_add-running
-overflow_add-running c =
-    let read : ℤ = cell c.args.weights.now c.loop-i.i in
-    let told : c.magnitude-running.result ≡ nat_abs read = let back : to_z w64 (of_z w64 read) ≡ read = to_z-of_z {w = w64} (search rules) in rw back at c.magnitude-running.ensures in
-    let sized : mag read < 2 ^ 63 = search rules in
-    omega (arith, c.loop-i.invariant.light, told, nat_abs-le read sized)
+overflow_add-running c = record { fits = weighed-fits c.loop-i.invariant (omega arith) (search rules) c.magnitude-running.ensures }
 
 pub returns-then-running-gt-LARGEST_WEIGHTS : goal.returns-then-running-gt-LARGEST_WEIGHTS
-returns-then-running-gt-LARGEST_WEIGHTS c =
-    let read : ℤ = cell c.args.weights.now c.loop-i.i in
-    let told : c.magnitude-running.result ≡ nat_abs read = let back : to_z w64 (of_z w64 read) ≡ read = to_z-of_z {w = w64} (search rules) in rw back at c.magnitude-running.ensures in
-    weighed-heavy c.loop-i.invariant (omega arith) told (omega arith)
+returns-then-running-gt-LARGEST_WEIGHTS c = place_at (omega arith) (weighed-heavy c.loop-i.invariant (omega arith) (search rules) c.magnitude-running.ensures (omega arith))
 
 pub loop-i-preserved : goal.loop-i-preserved
-loop-i-preserved c =
-    let read : ℤ = cell c.args.weights.now c.loop-i.i in
-    let told : c.magnitude-running.result ≡ nat_abs read = let back : to_z w64 (of_z w64 read) ≡ read = to_z-of_z {w = w64} (search rules) in rw back at c.magnitude-running.ensures in
-    weighed-next c.loop-i.invariant (omega arith) told (omega arith) (omega arith)
+loop-i-preserved c = weighed-next c.loop-i.invariant (omega arith) (search rules) c.magnitude-running.ensures (omega arith)
 
 pub returns : goal.returns
-returns c = weighed-all c.loop-i.invariant (omega arith)
+returns c = place_none (omega (arith, weighed-all c.loop-i.invariant (omega arith)))

@@ -1,8 +1,8 @@
 use mathlib.Core.Path.{◌≡◌}
 use mathlib.Core.List.{List}
-use Prim.Native.Nat.{ℕ, ◌+◌, ◌-◌, ◌≤◌}
+use Prim.Native.Nat.{ℕ, ◌+◌, ◌≤◌}
 use lib.IntN.{ℤ}
-use lib.ListN.{length, drop}
+use lib.ListN.{drop}
 use Rattle.exact.specs.Smoothing.{LARGEST_WEIGHTS}
 use Rattle.smooth_tests.specs.Tests.{first_heavy_from, first_heavy}
 use Rattle.smooth_tests.proofs.first_heavy.Given as goal
@@ -14,6 +14,3 @@ pub record Weighed (ws : List ℤ) (sum i : ℕ) : Type 0 where
 
 abbrev pub invariant-loop-i : goal.invariant-loop-i
 invariant-loop-i l = Weighed l.weights l.running l.i
-
-abbrev pub decreases-loop-i : goal.decreases-loop-i
-decreases-loop-i l = length l.weights - l.i

@@ -1,82 +1,72 @@
 -- `tested` is right because it makes the definition's tests in the definition's order.
 use borrow.Author.Rules.{rules}
-use borrow.Author.Tests.{eq-eqb, ne_eqb, lt-ltb, le-ltb}
-use mathlib.Core.Path.{◌≡◌, sym, ◌∙◌, ap}
-use mathlib.Core.Bool.{Bool, false, not}
+use borrow.Author.Tests.{eq-eqb, ne_eqb}
+use mathlib.Core.Path.{◌≡◌, refl, sym, ◌∙◌}
+use mathlib.Core.Bool.{Bool, true, false, not}
 use mathlib.Core.List.{List}
-use Prim.Native.Nat.{ℕ, ◌≤◌, ◌<◌}
+use Prim.Native.Nat.{ℕ}
 use native.Mathlib.Omega.{arith}
 use lib.Dec.{eqb, ltb}
 use lib.IntN.{ℤ}
 use lib.ListN.{length}
+use Rattle.std.specs.Prelude.{Option, Some, None, Result, Ok, Err}
 use Rattle.kind.specs.declared.BlockKind.{BlockKind}
-use Rattle.kind.specs.declared.KindFound.{KindFound}
-use Rattle.kind.specs.declared.KindFound.TheVariants.{Found}
 use Rattle.kind.specs.BlockKinds.{kind_of}
 use Rattle.kind.specs.Loudness.{LEAST_SAMPLE, LARGEST_SAMPLE}
-use Rattle.refusal.specs.declared.Refusal.TheVariants.{Misfit, Loud, Weights}
-use Rattle.block.specs.declared.BlockVerdict.{BlockVerdict}
-use Rattle.block.specs.declared.BlockVerdict.TheVariants.{Taken, Refused}
-use Rattle.block.specs.Tests.{of_length, refused_if, first_loud}
+use Rattle.refusal.specs.declared.Refusal.{Refusal}
+use Rattle.refusal.specs.declared.Refusal.TheVariants.{Length, Misfit, Loud, Weights}
+use Rattle.ints.specs.Place.{place_below}
+use Rattle.block.specs.Tests.{first_loud}
 use Rattle.smooth_tests.specs.Tests.{first_heavy, tested_smoothing}
 use Rattle.smooth_tests.proofs.InNumbers.{both_ways}
 use Rattle.smooth_tests.proofs.tested.Goals as goal
 
--- k is the kind that goes with len, and len is the number of cells
-module _ (xs ws : List ℤ) (len : ℕ) {k : KindFound} (e : k ≡ kind_of len) (whole : len ≡ length xs) where
-  -- tests 2, 3 and 20 after what test 1 has found
-  abbrev after : ℕ → ℕ → Bool → BlockVerdict → BlockVerdict
-  after heavy loud unfit first = refused_if (ltb heavy (length ws)) (Weights heavy) (refused_if (ltb loud (length xs)) (Loud loud) (refused_if unfit Misfit first))
+-- the answer by what the tests find: the kind, whether the weights do not fit, and the places of a loud sample and of a heavy weight
+abbrev found : Option BlockKind → Bool → Option ℕ → Option ℕ → Result BlockKind Refusal
+found None unfit loud heavy = Err Length
+found (Some kind) true loud heavy = Err Misfit
+found (Some kind) false (Some place) heavy = Err (Loud place)
+found (Some kind) false None (Some place) = Err (Weights place)
+found (Some kind) false None None = Ok kind
 
+module _ (xs ws : List ℤ) where
   abbrev louds : ℕ
   louds = first_loud LEAST_SAMPLE LARGEST_SAMPLE xs
 
-  first : (found : KindFound) → k ≡ found → after (first_heavy ws) louds (not (eqb (length ws) (length xs))) (of_length found) ≡ tested_smoothing xs ws
+  by : (kind : Option BlockKind) (unfit loud heavy : Bool) → kind_of (length xs) ≡ kind → not (eqb (length ws) (length xs)) ≡ unfit → ltb louds (length xs) ≡ loud
+      → ltb (first_heavy ws) (length ws) ≡ heavy → found kind unfit (place_below (length xs) louds) (place_below (length ws) (first_heavy ws)) ≡ tested_smoothing xs ws
   unfolding tested_smoothing
-  first found g = ap (λ (k : KindFound). after (first_heavy ws) louds (not (eqb (length ws) (length xs))) (of_length k)) (sym g ∙ e ∙ ap kind_of whole)
+  by None unfit loud heavy e f g h = rw e refl
+  by (Some kind) true loud heavy e f g h = rw (e, f) refl
+  by (Some kind) false true heavy e f g h = rw (e, f, g) refl
+  by (Some kind) false false true e f g h = rw (e, f, g, h) refl
+  by (Some kind) false false false e f g h = rw (e, f, g, h) refl
 
-  -- a length that is taken
-  module _ (kind : BlockKind) (g : k ≡ Found kind) where
-    misfits : ¬ (length ws ≡ length xs) → Refused Misfit ≡ tested_smoothing xs ws
-    misfits h = rw (ne_eqb (length ws) (length xs) h) at (first (Found kind) g)
+  in_turn : {kind : Option BlockKind} {unfit : Bool} {loud heavy : Option ℕ} → kind ≡ kind_of (length xs) → unfit ≡ not (eqb (length ws) (length xs))
+      → loud ≡ place_below (length xs) louds → heavy ≡ place_below (length ws) (first_heavy ws) → found kind unfit loud heavy ≡ tested_smoothing xs ws
+  in_turn e f g h = rw (e, f, g, h) (by (kind_of (length xs)) (not (eqb (length ws) (length xs))) (ltb louds (length xs)) (ltb (first_heavy ws) (length ws)) refl refl refl refl)
 
-    -- as many weights; the limits handed on are those of samples, and the answer to them is the place
-    module _ (as_long : length ws ≡ length xs) {l h : ℤ} {loud : ℕ} (f : loud ≡ first_loud l h xs) (el : l ≡ LEAST_SAMPLE) (eh : h ≡ LARGEST_SAMPLE) where
-      placed : after (first_heavy ws) loud false (Taken kind) ≡ tested_smoothing xs ws
-      placed = rw (f, el, eh) (rw (eq-eqb (length ws) (length xs) as_long) at (first (Found kind) g))
+  fit : length ws ≡ length xs → false ≡ not (eqb (length ws) (length xs))
+  fit h = rw (eq-eqb (length ws) (length xs) h) refl
 
-      loud-so : (i : ℕ) → loud < length xs → i ≡ loud → Refused (Loud i) ≡ tested_smoothing xs ws
-      loud-so i b same = rw same (rw (lt-ltb loud (length xs) b) at placed)
+-- ---- the goals
 
-      -- no sample is loud
-      module _ (quiet : length xs ≤ loud) {heavy : ℕ} (w : heavy ≡ first_heavy ws) where
-        weighed : refused_if (ltb heavy (length ws)) (Weights heavy) (Taken kind) ≡ tested_smoothing xs ws
-        weighed = rw w (rw (le-ltb loud (length xs) quiet) at placed)
-
-        heavy-so : (i : ℕ) → heavy < length ws → i ≡ heavy → Refused (Weights i) ≡ tested_smoothing xs ws
-        heavy-so i b same = rw same (rw (lt-ltb heavy (length ws) b) at weighed)
-
-        light-so : length ws ≤ heavy → Taken kind ≡ tested_smoothing xs ws
-        light-so b = rw (le-ltb heavy (length ws) b) at weighed
-
--- ---- the needs
+pub returns-in_err-kind : goal.returns-in_err-kind
+returns-in_err-kind c = let h : c.from_residual.result ≡ Err c.in_err-kind.field-0.0 = search rules in let none : c.of_len.result ≡ None = c.in_err-kind.ensures.ok_part in
+    let same : Err c.in_err-kind.field-0.0 ≡ Err Length = rw none at c.in_err-kind.ensures.value in
+    both_ways c.args.cells.now c.args.weights.now (h ∙ same ∙ in_turn _ _ (sym none ∙ c.of_len.ensures.answer) refl refl refl)
 
 pub returns-then-weights-cells : goal.returns-then-weights-cells
 returns-then-weights-cells c = let xs = c.args.cells.now in let ws = c.args.weights.now in
-    let r = both_ways xs ws (misfits xs ws _ c.of_len.ensures.answer (omega arith) _ c.in-Found.is (λ (e : length ws ≡ length xs). omega arith)) in
-    record { answer = r.0; numbers = r.1 }
+    both_ways xs ws (in_turn xs ws {unfit = true} (sym c.in_ok-kind.ensures.ok_part ∙ c.of_len.ensures.answer) (rw (ne_eqb (length ws) (length xs) (λ e. omega arith)) refl) refl refl)
 
-pub returns-then-loud-cells : goal.returns-then-loud-cells
-returns-then-loud-cells c = let r = both_ways _ _ (loud-so _ _ _ c.of_len.ensures.answer (omega arith) _ c.in-Found.is (omega arith)
-    c.first_loud-loud.ensures (search rules) (search rules) _ (omega arith) (omega arith)) in record { answer = r.0; numbers = r.1 }
+pub returns-in-Some : goal.returns-in-Some
+returns-in-Some c = both_ways c.args.cells.now c.args.weights.now (in_turn _ _ (sym c.in_ok-kind.ensures.ok_part ∙ c.of_len.ensures.answer) (fit _ _ (omega arith)) c.in-Some.ensures refl)
+
+pub returns-in-Some-first_heavy : goal.returns-in-Some-first_heavy
+returns-in-Some-first_heavy c = both_ways c.args.cells.now c.args.weights.now
+    (in_turn _ _ {loud = None} (sym c.in_ok-kind.ensures.ok_part ∙ c.of_len.ensures.answer) (fit _ _ (omega arith)) (search rules) c.in-Some-first_heavy.ensures)
 
 pub returns-in-None : goal.returns-in-None
-returns-in-None c = let r = both_ways _ _ (first _ _ _ c.of_len.ensures.answer (omega arith) _ c.in-None.is) in record { answer = r.0; numbers = r.1 }
-
-pub returns-then-heavy-weights : goal.returns-then-heavy-weights
-returns-then-heavy-weights c = let r = both_ways _ _ (heavy-so _ _ _ c.of_len.ensures.answer (omega arith) _ c.in-Found.is (omega arith)
-    c.first_loud-loud.ensures (search rules) (search rules) (omega arith) c.first_heavy-heavy.ensures _ (omega arith) (omega arith)) in record { answer = r.0; numbers = r.1 }
-
-pub returns-else-heavy-weights : goal.returns-else-heavy-weights
-returns-else-heavy-weights c = let r = both_ways _ _ (light-so _ _ _ c.of_len.ensures.answer (omega arith) _ c.in-Found.is (omega arith)
-    c.first_loud-loud.ensures (search rules) (search rules) (omega arith) c.first_heavy-heavy.ensures (omega arith)) in record { answer = r.0; numbers = r.1 }
+returns-in-None c = both_ways c.args.cells.now c.args.weights.now
+    (in_turn _ _ {loud = None} (sym c.in_ok-kind.ensures.ok_part ∙ c.of_len.ensures.answer) (fit _ _ (omega arith)) (search rules) c.in-None.ensures)

@@ -13,23 +13,20 @@ use Rattle.smoothing.specs.Inner.{LineRoom}
 use Rattle.smoothing.proofs.Restoring.{none_restored, next_restored, all_restored}
 use Rattle.smoothing.proofs.restore.Goals as goal
 
-pub loop-t-init : goal.loop-t-init
-loop-t-init c = none_restored c.args.p c.args.cells.now
+pub loop-z-init : goal.loop-z-init
+loop-z-init c = none_restored c.args.p c.args.cells.now
 
 pub restored-requires : goal.restored-requires
 restored-requires c =
-    let room : let l = c.loop-t in LineRoom (cell l.cells l.t) = let l = c.loop-t in rw (l.invariant.left l.t (omega arith)) (c.requires.2 l.t) in
-    let back : let l = c.loop-t in to_z w64 (of_z w64 (cell l.cells l.t)) ≡ cell l.cells l.t = let l = c.loop-t in reads_back (cell l.cells l.t) (2 * (1024 * FIRST)) (omega arith) room in
+    let room : let l = c.loop-z in LineRoom (cell l.cells l.z-index) = let l = c.loop-z in rw (l.invariant.left l.z-index (omega arith)) (c.requires.2 l.z-index) in
+    let back : let l = c.loop-z in to_z w64 (of_z w64 (cell l.cells l.z-index)) ≡ cell l.cells l.z-index = let l = c.loop-z in reads_back (cell l.cells l.z-index) (2 * (1024 * FIRST)) (omega arith) room in
     (c.requires.0, c.requires.1, rw back room)
 
-pub loop-t-smaller : goal.loop-t-smaller
-loop-t-smaller c = omega (arith, c.loop-t-test.true, c.loop-t.invariant.long)
-
-pub loop-t-preserved : goal.loop-t-preserved
-loop-t-preserved c =
-    let room : let l = c.loop-t in LineRoom (cell l.cells l.t) = let l = c.loop-t in rw (l.invariant.left l.t (omega arith)) (c.requires.2 l.t) in
-    let back : let l = c.loop-t in to_z w64 (of_z w64 (cell l.cells l.t)) ≡ cell l.cells l.t = let l = c.loop-t in reads_back (cell l.cells l.t) (2 * (1024 * FIRST)) (omega arith) room in
-    next_restored c.loop-t.invariant c.loop-t-test.true _ (to_z-of_z {w = w64} (sfits_of c.restored.type_inv) ∙ (rw back at c.restored.ensures))
+pub loop-z-preserved : goal.loop-z-preserved
+loop-z-preserved c =
+    let room : let l = c.loop-z in LineRoom (cell l.cells l.z-index) = let l = c.loop-z in rw (l.invariant.left l.z-index (omega arith)) (c.requires.2 l.z-index) in
+    let back : let l = c.loop-z in to_z w64 (of_z w64 (cell l.cells l.z-index)) ≡ cell l.cells l.z-index = let l = c.loop-z in reads_back (cell l.cells l.z-index) (2 * (1024 * FIRST)) (omega arith) room in
+    next_restored c.loop-z.invariant (omega arith) _ (to_z-of_z {w = w64} (sfits_of c.restored.type_inv) ∙ (rw back at c.restored.ensures))
 
 pub returns : goal.returns
-returns c = all_restored c.loop-t.invariant c.loop-t-test.false
+returns c = all_restored c.loop-z.invariant (omega arith)

@@ -14,42 +14,34 @@ use Rattle.table_bytes.specs.TableLeft.{as_cells}
 use Rattle.table_bytes.proofs.put_numbers.Invariants.{Going}
 use Rattle.table_bytes.proofs.put_numbers.Goals as goal
 
-module _ (numbers before : List ℕ) where
+module _ (numbers : List ℕ) where
   many : length (as_cells numbers) ≡ length numbers
   unfolding as_cells
   many = length-map numbers (λ n. pos n)
 
-  begun : (j : ℕ) → length before ≡ CELL * length numbers → j ≡ 0 → Going numbers before j before
-  begun j e ej = numbers_begun (omega (arith, many)) ej (omega arith)
+  is_cell : (j : ℕ) → pos (get_or numbers j 0) ≡ cell (as_cells numbers) j
+  unfolding as_cells
+  is_cell j = sym (get_or-map (λ n. pos n) numbers j 0)
 
-  module _ (j : ℕ) (now : List ℕ) (g : Going numbers before j now) where
-    room : j < length numbers → CELL * j + CELL ≤ length now
-    room h = numbers_room g 1 (omega (arith, many))
+  module _ {before now : List ℕ} {j at : ℕ} (g : Going numbers before j now at) where
+    room : j < length numbers → at + CELL ≤ length now
+    room h = omega (arith, numbers_room g 1 (omega (arith, many)))
 
-    is-cell : pos (get_or numbers j 0) ≡ cell (as_cells numbers) j
-    unfolding as_cells
-    is-cell = sym (get_or-map (λ n. pos n) numbers j 0)
-
-    -- a number is put at byte `at`, which is that of cell j, and is number j
-    next : (i at end n : ℕ) (after : List ℕ) → j < length numbers → Put (spelled_signed CELL (pos n)) now at after end → end ≡ at + CELL → at ≡ CELL * j → n ≡ get_or numbers j 0 → i ≡ j + 1 → Going numbers before i after
-    next i at end n after h p e ea en ei = numbers_next g 1 (omega (arith, many)) (rw (ea, to) at p)
-        (ap (λ (m : ℕ). spelled_signed CELL (pos m)) en ∙ ap (spelled_signed CELL) is-cell ∙ one_spelled CELL (as_cells numbers) j (omega (arith, many))) ei
-      where
-        to : end ≡ CELL * i
-        to = omega arith
+    -- number j was put
+    next : {after : List ℕ} {end : ℕ} → j < length numbers → Put (spelled_signed CELL (pos (get_or numbers j 0))) now at after end → Going numbers before (j + 1) after end
+    next h p = numbers_next g 1 (omega (arith, many)) p (ap (spelled_signed CELL) (is_cell j) ∙ one_spelled CELL (as_cells numbers) j (omega (arith, many))) refl
 
     all : length numbers ≤ j → length before ≡ CELL * length numbers → now ≡ spelled_signeds CELL (as_cells numbers)
-    all h e = numbers_over g (omega (arith, many)) (omega arith) (omega (arith, many))
+    all h e = numbers_over g (omega (arith, many)) refl (omega (arith, many))
 
-pub loop-j-init : goal.loop-j-init
-loop-j-init c = begun _ _ _ (omega arith) (omega arith)
+pub loop-number-init : goal.loop-number-init
+loop-number-init c = numbers_begun (omega (arith, many c.args.numbers.now)) refl refl
 
-pub put_number-requires : goal.put_number-requires
-put_number-requires c = let l = c.loop-j in room _ _ l.j l.bytes l.invariant (omega arith)
+pub put_number-at-requires : goal.put_number-at-requires
+put_number-at-requires c = room _ c.loop-number.invariant (omega arith)
 
-pub loop-j-preserved : goal.loop-j-preserved
-loop-j-preserved c = let l = c.loop-j in
-    next _ _ l.j l.bytes l.invariant _ _ _ _ _ (omega arith) c.put_number.ensures.0 c.put_number.ensures.1 (omega arith) refl (omega arith)
+pub loop-number-preserved : goal.loop-number-preserved
+loop-number-preserved c = next _ c.loop-number.invariant (omega arith) c.put_number-at.ensures
 
 pub returns : goal.returns
-returns c = let l = c.loop-j in all _ _ l.j l.bytes l.invariant (omega arith) (omega arith)
+returns c = all _ c.loop-number.invariant (omega arith) (omega arith)

@@ -3,7 +3,6 @@ use borrow.Author.Rules.{rules}
 use mathlib.Core.Path.{◌≡◌, ◌∙◌, ap}
 use Prim.Native.Nat.{ℕ, ◌+◌, ◌-◌, ◌/◌, ◌^◌}
 use native.Mathlib.Omega.{arith}
-use lib.ListN.{length-set}
 use Rattle.ints.proofs.Filling.{filled_next, filled_all}
 use Rattle.cosine.specs.Cosine.{fine, fine_with, quarter_table}
 use Rattle.table_rule.proofs.Rule.{fine_le}
@@ -17,16 +16,8 @@ entry s j d f x eight read e = e ∙ ap (λ (y : ℕ). (y + 2 ^ (59 - s)) / 2 ^ 
 pub at_scale-requires : goal.at_scale-requires
 at_scale-requires c = (search rules, rw c.quarter_cosine.ensures (fine_le 60 (omega arith) _ _))
 
-pub loop-j-smaller : goal.loop-j-smaller
-loop-j-smaller c = simp length-set (omega arith)
-
 pub loop-j-preserved : goal.loop-j-preserved
-loop-j-preserved c = (
-  simp length-set (omega arith),
-  simp length-set (omega arith),
-  filled_next 0 _ c.loop-j.table c.loop-j.j _ (omega arith)
-      (entry _ _ _ _ _ (omega arith) c.quarter_cosine.ensures c.at_scale.ensures) c.loop-j.invariant.2,
-)
+loop-j-preserved c = filled_next 0 _ c.loop-j.table c.loop-j.j _ (omega arith) (entry _ _ _ _ _ (omega arith) c.quarter_cosine.ensures c.at_scale.ensures) c.loop-j.invariant
 
 pub returns : goal.returns
-returns c = filled_all 0 _ _ _ c.loop-j.invariant.1 (λ i h. c.loop-j.invariant.2 i (omega arith))
+returns c = filled_all 0 _ _ _ (omega arith) (λ i h. c.loop-j.invariant i (omega arith))

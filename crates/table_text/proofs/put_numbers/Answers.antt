@@ -1,8 +1,7 @@
--- `put_numbers` is right because each turn puts the line of number j, and the lines from j on are still to be put.
-use borrow.Author.Rules.{rules}
-use mathlib.Core.Path.{◌≡◌, refl, ◌∙◌}
+-- `put_numbers` is right because each turn puts the line of one number, and the lines of the numbers after it are still to be put.
+use mathlib.Core.Path.{◌≡◌}
 use mathlib.Core.List.{List, [], ◌∷◌}
-use Prim.Native.Nat.{ℕ, ◌+◌, ◌*◌, ◌≤◌, ◌<◌}
+use Prim.Native.Nat.{ℕ, ◌+◌, ◌≤◌, ◌<◌}
 use native.Mathlib.Numerals.{add-one}
 use native.Mathlib.Omega.{arith}
 use lib.ListN.{length, get_or}
@@ -16,36 +15,23 @@ use Rattle.table_text.proofs.put_numbers.Invariants.{Going}
 use Rattle.table_text.proofs.put_numbers.Goals as goal
 
 module _ {numbers before : List ℕ} where
-  begun : (j at : ℕ) → j ≡ 0 → at ≡ 0 → Going numbers before before j at
-  begun j at ej ea = record {
-    inside = omega arith;
-    long = refl;
-    few = omega arith;
-    still = rw ej (still_begun (number_lines numbers) before 0 at ea);
-  }
-
-  next : {now after : List ℕ} {at end i : ℕ} (j : ℕ) → i ≡ j + 1 → j < length numbers → at + LINE_BYTES ≤ length now → Going numbers before now j at
-      → Put (text_line (decimal (get_or numbers j 0) ∷ [])) now at after end × (end ≤ at + LINE_BYTES) → length after ≡ length now → Going numbers before after i end
+  next : {now after : List ℕ} {at end : ℕ} (j : ℕ) → j < length numbers → at + LINE_BYTES ≤ length now → Going numbers before now j at
+      → Put (text_line (decimal (get_or numbers j 0) ∷ [])) now at after end × (end ≤ at + LINE_BYTES) → Going numbers before after (j + 1) end
   unfolding number_lines
-  next {at = at} {end = end} j e h room g p same = rw (e, add-one j) (record {
-    inside = omega arith;
-    long = same ∙ g.long;
+  next j h room g p = rw (add-one j) (record {
     few = omega (arith, g.few, p.1);
     still = still_next (rw (drop-cons numbers j 0 h) at g.still) p.0 (omega (arith, p.1));
   })
 
-  done : {now : List ℕ} {at : ℕ} (j : ℕ) → length numbers ≤ j → LINE_BYTES * length numbers ≤ length before → Going numbers before now j at
-      → Put (number_lines numbers) before 0 now at × (at ≤ length now)
+  done : {now : List ℕ} {at j : ℕ} → j ≡ length numbers → Going numbers before now j at → Put (number_lines numbers) before 0 now at
   unfolding number_lines
-  done j h room g = let all : j ≡ length numbers = omega (arith, g.inside) in
-      (still_done (rw (all, drop-length numbers) at g.still), omega (arith, g.few, g.inside, g.long))
+  done h g = still_done (rw (h, drop-length numbers) at g.still)
 
-pub loop-j-init : goal.loop-j-init
-loop-j-init c = begun _ _ (omega arith) (omega arith)
+pub loop-number-init : goal.loop-number-init
+loop-number-init c = record { few = omega arith; still = still_begun _ _ _ _ (omega arith) }
 
-pub loop-j-preserved : goal.loop-j-preserved
-loop-j-preserved c = let l = c.loop-j in
-    next l.j (omega arith) (omega arith) (omega arith) l.invariant c.put_number-at.ensures (search rules)
+pub loop-number-preserved : goal.loop-number-preserved
+loop-number-preserved c = next c.loop-number.number-index (omega arith) (omega arith) c.loop-number.invariant c.put_number-at.ensures
 
 pub returns : goal.returns
-returns c = done c.loop-j.j (omega arith) (omega arith) c.loop-j.invariant
+returns c = (done (omega arith) c.loop-number.invariant, omega (arith, c.loop-number.invariant.few))

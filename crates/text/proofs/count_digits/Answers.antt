@@ -1,39 +1,19 @@
--- `count_digits` is right because x has more digits than `count` as long as 10^count is not above it.
-use mathlib.Core.Path.{◌≡◌}
-use Prim.Native.Nat.{ℕ, ◌+◌, ◌*◌, ◌≤◌, ◌<◌}
+-- `count_digits` is right because a number has one digit more than the power of ten that is not above it.
+use mathlib.Core.Path.{◌≡◌, ap}
+use Prim.Native.Nat.{ℕ, ◌+◌, ◌*◌, ◌^◌, ◌≤◌, ◌<◌}
 use native.Mathlib.Nat.{pow-suc}
 use native.Mathlib.Numerals.{add-one}
 use native.Mathlib.Omega.{arith}
 use lib.ListN.{length}
+use Rattle.std.specs.Prelude.{Option, Some, None, IfNone, IfSome, unwrap_or}
 use Rattle.text.specs.Decimals.{decimal}
-use Rattle.text.proofs.Laws.{decimal-length, decimal_longer, decimal-some, word_length}
-use Rattle.text.proofs.count_digits.Invariants.{Counted}
+use Rattle.text.proofs.Laws.{decimal-length, decimal_longer, length_one}
 use Rattle.text.proofs.count_digits.Goals as goal
 
-begun : (x count least : ℕ) → count ≡ 1 → least ≡ 1 → Counted x count least
-begun x count least ec el = record { some = omega arith; power = rw (ec, el); few = omega (arith, decimal-some x) }
-
-module _ {x count least : ℕ} (n : Counted x count least) where
-  more : 10 * least ≤ x → count < length (decimal x)
-  more h = decimal_longer count x (omega (arith, n.power))
-
-  next : (c l : ℕ) → 10 * least ≤ x → c ≡ count + 1 → l ≡ least * 10 → Counted x c l
-  next c l h ec el = record { some = omega arith; power = rw (ec, add-one count, pow-suc 10 count, ← n.power, el) (omega arith); few = omega (arith, more h) }
-
-  all : x < 10 * least → count ≡ length (decimal x)
-  all h = omega (arith, n.few, decimal-length count x n.some (omega (arith, n.power)))
-
-pub loop-least-init : goal.loop-least-init
-loop-least-init c = begun _ _ _ (omega arith) (omega arith)
-
-pub overflow_add-count : goal.overflow_add-count
-overflow_add-count c = let m = more c.loop-least.invariant (omega arith) in omega (arith, word_length c.args.x (omega arith))
-
-pub loop-least-smaller : goal.loop-least-smaller
-loop-least-smaller c = let m = more c.loop-least.invariant (omega arith) in omega arith
-
-pub loop-least-preserved : goal.loop-least-preserved
-loop-least-preserved c = next c.loop-least.invariant _ _ (omega arith) (omega arith) (omega arith)
+-- by the power of ten, of which 0 has none
+counted : (x : ℕ) (power : Option ℕ) → IfNone power (x ≡ 0) → IfSome power (λ k. 10 ^ k ≤ x) → IfSome power (λ k. x < 10 * 10 ^ k) → unwrap_or power 0 + 1 ≡ length (decimal x)
+counted x None zero least most = omega (arith, length_one x (omega arith))
+counted x (Some k) zero least most = omega (arith, decimal_longer k x least, decimal-length (k + 1) x (omega arith) (omega (arith, pow-suc 10 k, ap (λ n. 10 ^ n) (add-one k))))
 
 pub returns : goal.returns
-returns c = all c.loop-least.invariant (omega arith)
+returns c = let e = c.checked_ilog10.ensures in omega (arith, counted c.args.x _ e.none e.power_le e.next_power_gt, c.unwrap_or.ensures)

@@ -1,8 +1,0 @@
--- `long_saved_into` is right because no more bytes are used than are lent.
-use borrow.Author.Rules.{rules}
-use mathlib.Core.Path.{sym}
-use lib.Seq.{length-take-le}
-use Rattle.worked_saves.proofs.long_saved_into.Goals as goal
-
-pub slice_bounds-fetched-end-then-used-gt0 : goal.slice_bounds-fetched-end-then-used-gt0
-slice_bounds-fetched-end-then-used-gt0 g c = sym (length-take-le _ _ (search rules))
