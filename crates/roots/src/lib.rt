@@ -21,8 +21,8 @@ pub fn long_root(x: u64) -> u64
 }
 
 // The whole square root of x × 4^more, as by hand: for each digit of the root the next two digits of the number are brought down beside the rest, and the
-// digit is 1 where 4 root + 1 can be taken from them. Rest and trial stay below 2^63. By hand, though std has `isqrt`: it roots no product of 122 digits, and the
-// wrong programs that leave out or double a step are of this loop.
+// digit is 1 where 4 root + 1 can be taken from them. Rest and trial stay below 2^63. By hand, though std has `isqrt`: that would take numbers of 128 digits for
+// the longer product, and the wrong programs that leave out or double a step are of this loop.
 fn digits_of(x: u64, more: usize) -> u64
     requires { more ≤ 29 }
     ensures { result ≡ root (x * 4 ^ more) }
