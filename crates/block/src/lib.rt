@@ -77,8 +77,15 @@ pub fn loud(low: i64, high: i64, x: i64) -> bool
     x < low || high < x
 }
 
-// The place of the first cell outside low to high, if there is one. The cells are a slice, or whatever else is read by place.
-pub fn first_loud<C: Cells>(low: i64, high: i64, cells: C) -> Option<usize>
+// The place of the first cell outside low to high, if there is one.
+pub fn first_loud(low: i64, high: i64, cells: &[i64]) -> Option<usize>
+    ensures { result ≡ place_below (length cells.now) (first_loud low high cells.now) }
+{
+    first_loud_of(low, high, cells)
+}
+
+// The same of any list of cells that is read by place.
+pub fn first_loud_of<C: Cells>(low: i64, high: i64, cells: C) -> Option<usize>
     ensures { result ≡ place_below (length (C.list cells)) (first_loud low high (C.list cells)) }
 {
     for i in 0..cells.len() {

@@ -13,5 +13,5 @@ use refusal::Refusal;
 pub fn bound(bytes: &[u8]) -> Result<u64, Refusal>
     ensures { result ≡ bound_answer (cells_in bytes.now) }
 {
-    distance::bound(LentCells(bytes))
+    distance::bound_of(LentCells(bytes))
 }

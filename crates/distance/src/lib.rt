@@ -2,10 +2,11 @@
 // that spell it: whatever is read by place.
 #![tactic(auto)]
 
-ghost use Rattle.std.specs.Prelude.{◌≡◌, ◌+◌, ◌*◌};
+ghost use Rattle.std.specs.Prelude.{◌≡◌, ℕ, ◌+◌, ◌*◌, Ok};
+ghost use Rattle.kind.specs.BlockKinds.{SCALE};
 ghost use Rattle.spectrum.specs.Distance.{bound, ceiling};
 ghost use Rattle.distance.specs.BoundAnswers.{bound_answer, bound_answer_numbers, bound_numbers};
-ghost use Rattle.distance.specs.Inner.{CanBound, CanStep, heard};
+ghost use Rattle.distance.specs.Inner.{CanBound, CanStep, answer_by, heard};
 
 use block::{LARGEST_SAMPLE, LEAST_SAMPLE};
 use cells::Cells;
@@ -13,13 +14,29 @@ use kind::BlockKind;
 use refusal::Refusal;
 
 // The bound for a block of samples: no line of its forward spectrum is farther from the direct sum. It takes the blocks that forward takes.
-pub fn bound<C: Cells>(cells: C) -> Result<u64, Refusal>
+pub fn bound(cells: &[i64]) -> Result<u64, Refusal>
+    ensures answer { result ≡ bound_answer cells.now }
+    ensures numbers { bound_answer_numbers result ≡ bound_numbers cells.now }
+{
+    bound_of(cells)
+}
+
+// The same for any list of cells that is read by place.
+pub fn bound_of<C: Cells>(cells: C) -> Result<u64, Refusal>
     ensures answer { result ≡ bound_answer (C.list cells) }
     ensures numbers { bound_answer_numbers result ≡ bound_numbers (C.list cells) }
 {
     let kind = BlockKind::of_len(cells.len()).ok_or(Refusal::Length)?;
-    let largest = listen(cells)?;
-    Ok(bound_for(BlockKind::SCALE as u64, largest, kind.p))
+    answer(kind.p, listen(cells))
+}
+
+// The answer for 2^p cells, by what was heard of them.
+#[tactic(auto, unfolding(crate::specs::Inner::answer_by))]
+fn answer(p: usize, listened: Result<u64, Refusal>) -> Result<u64, Refusal>
+    requires { (M : ℕ) → listened ≡ Ok M → CanBound SCALE M p }
+    ensures { result ≡ answer_by p listened }
+{
+    Ok(bound_for(BlockKind::SCALE as u64, listened?, p))
 }
 
 // The largest magnitude of the cells, or the refusal of the first loud one.
@@ -32,7 +49,7 @@ fn listen<C: Cells>(cells: C) -> Result<u64, Refusal>
         if block::loud(LEAST_SAMPLE, LARGEST_SAMPLE, x) {
             return Err(Refusal::Loud(i));
         }
-        largest = largest.max(x.unsigned_abs());
+        largest = largest.max(ints::magnitude(x));
     }
     Ok(largest)
 }

@@ -2,7 +2,7 @@
 // one whose power reaches a level. The list is a slice, or bytes that spell it: whatever is read by place.
 #![tactic(auto)]
 
-ghost use Rattle.std.specs.Prelude.{◌≡◌, ◌+◌, ◌^◌, ◌≤◌, ◌<◌, length};
+ghost use Rattle.std.specs.Prelude.{◌≡◌, ◌+◌, ◌^◌, ◌≤◌, ◌<◌, ◌≤ℤ◌, length};
 ghost use Rattle.kind.specs.BlockKinds.{LARGEST};
 ghost use Rattle.search.specs.Search.{Strongest, nearest, reaches};
 ghost use Rattle.search.specs.SearchTests.{tested_band, tested_chosen, wrong_length};
@@ -21,7 +21,15 @@ pub struct Peak {
 }
 
 // The strongest line from low to high, both included; the lowest of equals. There is always one.
-pub fn strongest<C: Cells>(powers: C, low: Line, high: Line) -> Result<Line, Refusal>
+pub fn strongest(powers: &[i64], low: Line, high: Line) -> Result<Line, Refusal>
+    ensures answer { as_found result ≡ strongest_answer powers.now low high }
+    ensures numbers { search_numbers (as_found result) ≡ strongest_numbers powers.now low.0 high.0 }
+{
+    strongest_of(powers, low, high)
+}
+
+// The same of any list of powers that is read by place.
+pub fn strongest_of<C: Cells>(powers: C, low: Line, high: Line) -> Result<Line, Refusal>
     ensures answer { as_found result ≡ strongest_answer (C.list powers) low high }
     ensures numbers { search_numbers (as_found result) ≡ strongest_numbers (C.list powers) low.0 high.0 }
 {
@@ -30,7 +38,15 @@ pub fn strongest<C: Cells>(powers: C, low: Line, high: Line) -> Result<Line, Ref
 }
 
 // The line nearest to the chosen one whose power reaches the level, the lower of two equally near; or none.
-pub fn nearest<C: Cells>(powers: C, chosen: Line, level: i64) -> Result<Option<Line>, Refusal>
+pub fn nearest(powers: &[i64], chosen: Line, level: i64) -> Result<Option<Line>, Refusal>
+    ensures answer { result ≡ nearest_answer powers.now chosen level }
+    ensures numbers { search_numbers result ≡ nearest_numbers powers.now chosen.0 level }
+{
+    nearest_of(powers, chosen, level)
+}
+
+// The same of any list of powers that is read by place.
+pub fn nearest_of<C: Cells>(powers: C, chosen: Line, level: i64) -> Result<Option<Line>, Refusal>
     ensures answer { result ≡ nearest_answer (C.list powers) chosen level }
     ensures numbers { search_numbers result ≡ nearest_numbers (C.list powers) chosen.0 level }
 {
@@ -120,7 +136,7 @@ pub fn stronger_of_four(peak: Peak, v: usize, a: i64, b: i64, c: i64, d: i64) ->
     requires { v + 3 < 2 ^ 64 }
     ensures { result ≡ stronger (stronger (stronger (stronger peak v a) (v + 1) b) (v + 2) c) (v + 3) d }
 {
-    if reaches(peak.power, a.max(b).max(c.max(d))) {
+    if reaches(peak.power, larger(larger(a, b), larger(c, d))) {
         return peak;
     }
     stronger(
@@ -128,6 +144,13 @@ pub fn stronger_of_four(peak: Peak, v: usize, a: i64, b: i64, c: i64, d: i64) ->
         v + 3,
         d,
     )
+}
+
+// The larger of two powers. By hand: `max` would be a second comparison of powers beside `reaches`.
+fn larger(a: i64, b: i64) -> i64
+    ensures { (a ≤ℤ result) × (b ≤ℤ result) }
+{
+    if reaches(a, b) { a } else { b }
 }
 
 // The strongest line so far, once line v is looked at, which lies above the others.
@@ -139,7 +162,7 @@ pub fn stronger(peak: Peak, v: usize, power: i64) -> Peak
     if kept { peak } else { next }
 }
 
-// Whether a power reaches a level. It alone decides which line is stronger, and which reaches a level; a largest of four only tells where to look closer.
+// Whether a power reaches a level. This is the only comparison of powers.
 #[tactic(auto, unfolding(crate::specs::Search::reaches))]
 pub fn reaches(power: i64, level: i64) -> bool
     ensures { result ≡ reaches power level }

@@ -14,12 +14,12 @@ use refusal::Refusal;
 pub fn strongest(powers: &[u8], low: Line, high: Line) -> Result<Line, Refusal>
     ensures { as_found result ≡ strongest_answer (cells_in powers.now) low high }
 {
-    search::strongest(LentCells(powers), low, high)
+    search::strongest_of(LentCells(powers), low, high)
 }
 
 // The line nearest to the chosen one that reaches the level, of the powers that the bytes spell; or none.
 pub fn nearest(powers: &[u8], chosen: Line, level: i64) -> Result<Option<Line>, Refusal>
     ensures { result ≡ nearest_answer (cells_in powers.now) chosen level }
 {
-    search::nearest(LentCells(powers), chosen, level)
+    search::nearest_of(LentCells(powers), chosen, level)
 }

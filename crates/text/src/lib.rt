@@ -24,7 +24,7 @@ pub fn put_signed(x: i64, after: u8, out: &mut [u8], at: usize) -> usize
     ensures put { at + length (signed_decimal x) + 1 ≤ length out.old → PutField (signed_decimal x) after out.old at out.new result }
     ensures kept { length out.old < at + length (signed_decimal x) + 1 → (out.new ≡ out.old) × (result ≡ at) }
 {
-    let size = x.unsigned_abs();
+    let size = ints::magnitude(x);
     if x >= 0 {
         return put_decimal(size, after, out, at);
     }

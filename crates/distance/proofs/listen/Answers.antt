@@ -14,7 +14,7 @@ returns-then-loud g c = let p = c.cell-x in
 
 pub loop-i-preserved : goal.loop-i-preserved
 loop-i-preserved g c = let p = c.cell-x in
-    going_on c.loop-i.invariant (omega arith) c.loud.ensures (to_z-of_z {w = w64} (sfits_of p.type_inv) ∙ p.ensures) c.if-loud.false (c.max-largest.ensures ∙ ap (max c.loop-i.largest) c.unsigned_abs.ensures.value) refl
+    going_on c.loop-i.invariant (omega arith) c.loud.ensures (to_z-of_z {w = w64} (sfits_of p.type_inv) ∙ p.ensures) c.if-loud.false (c.max-largest.ensures ∙ ap (max c.loop-i.largest) c.magnitude.ensures) refl
 
 pub returns : goal.returns
 returns g c = going_all c.loop-i.invariant (omega arith)

@@ -10,10 +10,10 @@ use Rattle.search.proofs.stronger_of_four.Goals as goal
 
 pub returns-then-reaches : goal.returns-then-reaches
 returns-then-reaches c = let f = c.ranges in
-    let m = c.max in let n = c.max-2 in let top = c.max-3 in
+    let m = c.larger in let n = c.larger-2 in let top = c.larger-3 in
     let bm : to_z w64 (of_z w64 m.result) ≡ m.result = to_z-of_z {w = w64} (sfits_of m.type_inv) in
     let bn : to_z w64 (of_z w64 n.result) ≡ n.result = to_z-of_z {w = w64} (sfits_of n.type_inv) in
     let bt : to_z w64 (of_z w64 top.result) ≡ top.result = to_z-of_z {w = w64} (sfits_of top.type_inv) in
     let bp : to_z w64 (of_z w64 c.args.peak.power) ≡ c.args.peak.power = search rules in
-    four_kept _ _ (rw (to_z-of_z f.a) at m.ensures.self_bound) (rw (to_z-of_z f.b) at m.ensures.other_bound) (rw (to_z-of_z f.c) at n.ensures.self_bound) (rw (to_z-of_z f.d) at n.ensures.other_bound)
-    (rw bm at top.ensures.self_bound) (rw bn at top.ensures.other_bound) (reached (sym (simp (bp, bt) at c.reaches.ensures) ∙ c.if-reaches.true))
+    four_kept _ _ (rw (to_z-of_z f.a) at m.ensures.0) (rw (to_z-of_z f.b) at m.ensures.1) (rw (to_z-of_z f.c) at n.ensures.0) (rw (to_z-of_z f.d) at n.ensures.1)
+    (rw bm at top.ensures.0) (rw bn at top.ensures.1) (reached (sym (simp (bp, bt) at c.reaches.ensures) ∙ c.if-reaches.true))

@@ -27,9 +27,9 @@ module _ (numbers : List ℕ) where
     room : j < length numbers → at + CELL ≤ length now
     room h = omega (arith, numbers_room g 1 (omega (arith, many)))
 
-    -- number j was put
-    next : {after : List ℕ} {end : ℕ} → j < length numbers → Put (spelled_signed CELL (pos (get_or numbers j 0))) now at after end → Going numbers before (j + 1) after end
-    next h p = numbers_next g 1 (omega (arith, many)) p (ap (spelled_signed CELL) (is_cell j) ∙ one_spelled CELL (as_cells numbers) j (omega (arith, many))) refl
+    -- number j was put, and the next one goes where it ends
+    next : {after : List ℕ} {end to : ℕ} → j < length numbers → Put (spelled_signed CELL (pos (get_or numbers j 0))) now at after end → to ≡ end → Going numbers before (j + 1) after to
+    next h p e = rw e (numbers_next g 1 (omega (arith, many)) p (ap (spelled_signed CELL) (is_cell j) ∙ one_spelled CELL (as_cells numbers) j (omega (arith, many))) refl)
 
     all : length numbers ≤ j → length before ≡ CELL * length numbers → now ≡ spelled_signeds CELL (as_cells numbers)
     all h e = numbers_over g (omega (arith, many)) refl (omega (arith, many))
@@ -41,7 +41,7 @@ pub put_number-at-requires : goal.put_number-at-requires
 put_number-at-requires c = room _ c.loop-number.invariant (omega arith)
 
 pub loop-number-preserved : goal.loop-number-preserved
-loop-number-preserved c = next _ c.loop-number.invariant (omega arith) c.put_number-at.ensures
+loop-number-preserved c = next _ c.loop-number.invariant (omega arith) c.put_number-at.ensures (omega arith)
 
 pub returns : goal.returns
 returns c = all _ c.loop-number.invariant (omega arith) (omega arith)

@@ -32,23 +32,23 @@ with_sign m {next} {before} {at = at} h p = record {
 
 pub returns-then-x-ge0-clause-put : goal.returns-then-x-ge0-clause-put
 returns-then-x-ge0-clause-put c =
-    let e = unsigned c.args.x _ c.ranges.x c.unsigned_abs-size.ensures.value c.if-x-ge0.true in rw (← e) c.put_decimal.ensures.put
+    let e = unsigned c.args.x _ c.ranges.x c.magnitude-size.ensures c.if-x-ge0.true in rw (← e) c.put_decimal.ensures.put
 
 pub returns-then-x-ge0-clause-kept : goal.returns-then-x-ge0-clause-kept
 returns-then-x-ge0-clause-kept c =
-    let e = unsigned c.args.x _ c.ranges.x c.unsigned_abs-size.ensures.value c.if-x-ge0.true in rw (← e) c.put_decimal.ensures.kept
+    let e = unsigned c.args.x _ c.ranges.x c.magnitude-size.ensures c.if-x-ge0.true in rw (← e) c.put_decimal.ensures.kept
 
 pub overflow_add-digits : goal.overflow_add-digits
-overflow_add-digits c = omega (arith, word_length c.unsigned_abs-size.result (omega arith))
+overflow_add-digits c = omega (arith, word_length c.magnitude-size.result (omega arith))
 
 pub returns-then-not-has_room-clause-put : goal.returns-then-not-has_room-clause-put
 returns-then-not-has_room-clause-put c =
-    let e = signed c.args.x _ c.ranges.x c.unsigned_abs-size.ensures.value c.if-x-ge0.false in rw (← e) (grind arith)
+    let e = signed c.args.x _ c.ranges.x c.magnitude-size.ensures c.if-x-ge0.false in rw (← e) (grind arith)
 
 pub returns-clause-put : goal.returns-clause-put
 returns-clause-put c =
-    let e = signed c.args.x _ c.ranges.x c.unsigned_abs-size.ensures.value c.if-x-ge0.false in rw (← e) (λ room. with_sign c.unsigned_abs-size.result (omega arith) c.put_field.ensures)
+    let e = signed c.args.x _ c.ranges.x c.magnitude-size.ensures c.if-x-ge0.false in rw (← e) (λ room. with_sign c.magnitude-size.result (omega arith) c.put_field.ensures)
 
 pub returns-clause-kept : goal.returns-clause-kept
 returns-clause-kept c =
-    let e = signed c.args.x _ c.ranges.x c.unsigned_abs-size.ensures.value c.if-x-ge0.false in rw (← e) (grind arith)
+    let e = signed c.args.x _ c.ranges.x c.magnitude-size.ensures c.if-x-ge0.false in rw (← e) (grind arith)

@@ -1,4 +1,4 @@
--- `first_loud` is right because it looks at the cells in turn, and none before cell i is loud.
+-- `first_loud_of` is right because it looks at the cells in turn, and none before cell i is loud.
 use borrow.Author.Rules.{sfits_of}
 use mathlib.Core.Path.{refl, ◌∙◌}
 use native.Mathlib.Omega.{arith}
@@ -6,7 +6,7 @@ use mir.Facts.{to_z-of_z}
 use mir.Syntax.{w64}
 use Rattle.block.proofs.Place.{place_at, place_none}
 use Rattle.block.proofs.Looking.{looked_none, looked-loud, looked-quiet, looked_all}
-use Rattle.block.proofs.first_loud.Goals as goal
+use Rattle.block.proofs.first_loud_of.Goals as goal
 
 pub loop-i-init : goal.loop-i-init
 loop-i-init g c = looked_none refl

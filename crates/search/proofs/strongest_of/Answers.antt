@@ -1,11 +1,11 @@
--- `strongest` is right because its checks are the definition's, and a line that has the relation `Strongest` is the definition's.
+-- `strongest_of` is right because its checks are the definition's, and a line that has the relation `Strongest` is the definition's.
 use mathlib.Core.Path.{refl, sym, ap}
 use native.Mathlib.Omega.{arith}
 use Rattle.std.specs.Prelude.{Ok, Err}
 use Rattle.std.proofs.lemmas.Result.{err_from_is_err_and}
 use Rattle.search.proofs.Band.{strongest-is}
 use Rattle.search.proofs.Checks.{band_taken, strongest_so}
-use Rattle.search.proofs.strongest.Goals as goal
+use Rattle.search.proofs.strongest_of.Goals as goal
 
 pub look_through-requires : goal.look_through-requires
 look_through-requires g c = let t = band_taken _ _ _ c.len.ensures c.tested_band.ensures c.in_ok-tested_band.was in (t.ordered, t.listed, omega arith)

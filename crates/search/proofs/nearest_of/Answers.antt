@@ -1,10 +1,10 @@
--- `nearest` is right because its checks are the definition's, and `look_outwards` finds the definition's line or none.
+-- `nearest_of` is right because its checks are the definition's, and `look_outwards` finds the definition's line or none.
 use mathlib.Core.Path.{refl, ap}
 use mir.Facts.{to_z-of_z}
 use Rattle.std.specs.Prelude.{Ok, Err}
 use Rattle.std.proofs.lemmas.Result.{err_from_is_err_and}
 use Rattle.search.proofs.Checks.{listed_chosen, nearest_so}
-use Rattle.search.proofs.nearest.Goals as goal
+use Rattle.search.proofs.nearest_of.Goals as goal
 
 pub look_outwards-requires : goal.look_outwards-requires
 look_outwards-requires g c = listed_chosen _ _ c.args.level c.len.ensures c.tested_chosen.ensures c.in_ok-tested_chosen.was
